@@ -1,0 +1,12 @@
+//! CBOR (RFC 8949): the values that messages, vouchers and records are made of, and their bytes.
+#![tactic(auto)]
+
+pub mod blob;
+pub mod item;
+pub mod no_memory;
+pub mod text;
+
+pub use blob::Blob;
+pub use item::{Item, Items, Pairs};
+pub use no_memory::NoMemory;
+pub use text::Text;
