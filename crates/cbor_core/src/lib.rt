@@ -2,11 +2,14 @@
 #![tactic(auto)]
 
 pub mod blob;
+mod copy;
 pub mod item;
 pub mod no_memory;
 pub mod text;
+pub mod write;
 
 pub use blob::Blob;
 pub use item::{Item, Items, Pairs};
 pub use no_memory::NoMemory;
 pub use text::Text;
+pub use write::write_det;

@@ -1,0 +1,109 @@
+ghost use Rattle.std.specs.Prelude.{◌≡◌, ◌++◌, ◌<◌, ◌∷◌, ◌^◌, [], IfOk, OnOk, length, map, flat_map};
+ghost use Rattle.std.specs.List.{concat};
+ghost use Rattle.cbor_core.specs.Head.{head};
+ghost use Rattle.cbor_core.specs.Deterministic.{det, det_pairs, in_key_order};
+
+use crate::blob::Blob;
+use crate::item::Item;
+use crate::no_memory::NoMemory;
+use std::alloc::Global;
+use std::collections::BTreeMap;
+
+/// The deterministic spelling of an item: shortest arguments, definite lengths, and map keys in bytewise order.
+pub fn write_det(alloc: Global, item: &Item) -> Result<Blob, NoMemory>
+    ensures { IfOk result (λ blob. blob ≡ det item.now) }
+{
+    let mut out = Vec::new(alloc);
+    write_item(alloc, &mut out, item)?;
+    Ok(Blob::new(out))
+}
+
+#[cycle(write)]
+fn write_item(alloc: Global, out: &mut Vec<u8>, item: &Item) -> Result<(), NoMemory>
+    ensures { OnOk result (out.new.items ≡ out.old.items ++ det item.now) }
+{
+    match item {
+        Item::Uint(number) => write_head(out, 0, *number),
+        Item::Nint(number) => write_head(out, 1, *number),
+        Item::Bytes(bytes) => write_string(out, 2, bytes.as_list()),
+        Item::Text(text) => write_string(out, 3, text.as_list().as_bytes()),
+        Item::Array(items) => write_items(alloc, out, items.as_slice()),
+        Item::Map(pairs) => write_map(alloc, out, pairs.as_slice()),
+        Item::Tag(tag, content) => {
+            write_head(out, 6, *tag)?;
+            write_item(alloc, out, content.get())
+        }
+        Item::Simple(value) => write_head(out, 7, *value as u64),
+    }
+}
+
+#[cycle(write)]
+fn write_items(alloc: Global, out: &mut Vec<u8>, items: &[Item]) -> Result<(), NoMemory>
+    ensures { OnOk result (out.new.items ≡ out.old.items ++ (head 4 (length items.now) ++ concat (map det items.now))) }
+{
+    write_head(out, 4, items.len() as u64)?;
+    for item in items {
+        write_item(alloc, out, item)?;
+    }
+    Ok(())
+}
+
+#[cycle(write)]
+fn write_map(alloc: Global, out: &mut Vec<u8>, pairs: &[(Item, Item)]) -> Result<(), NoMemory>
+    ensures { OnOk result (out.new.items ≡ out.old.items ++ det_pairs (in_key_order (map (λ p. (det p.0, det p.1)) pairs.now))) }
+{
+    let mut spelled = BTreeMap::new(alloc);
+    for (key, value) in pairs {
+        let mut front = Vec::new(alloc);
+        write_item(alloc, &mut front, key)?;
+        let mut back = Vec::new(alloc);
+        write_item(alloc, &mut back, value)?;
+        spelled.insert(Blob::new(front), Blob::new(back))?;
+    }
+    write_spelled(out, &spelled)
+}
+
+fn write_spelled(out: &mut Vec<u8>, spelled: &BTreeMap<Blob, Blob>) -> Result<(), NoMemory>
+    ensures { OnOk result (out.new.items ≡ out.old.items ++ det_pairs spelled.now.entries) }
+{
+    write_head(out, 5, spelled.len() as u64)?;
+    for (key, value) in spelled.iter() {
+        out.extend_from_slice(key.as_list())?;
+        out.extend_from_slice(value.as_list())?;
+    }
+    Ok(())
+}
+
+fn write_string(out: &mut Vec<u8>, major: u8, bytes: &[u8]) -> Result<(), NoMemory>
+    requires { major < 8 }
+    ensures { OnOk result (out.new.items ≡ out.old.items ++ (head major (length bytes.now) ++ bytes.now)) }
+{
+    write_head(out, major, bytes.len() as u64)?;
+    out.extend_from_slice(bytes)?;
+    Ok(())
+}
+
+/// Writes a head with the shortest argument.
+#[tactic(auto, unfolding(crate::specs::Head::head))]
+fn write_head(out: &mut Vec<u8>, major: u8, argument: u64) -> Result<(), NoMemory>
+    requires { major < 8 }
+    ensures { OnOk result (out.new.items ≡ out.old.items ++ head major argument) }
+{
+    let first = 32 * major;
+    if argument < 24 {
+        out.push(first + argument as u8)?;
+    } else if argument < 1 << 8 {
+        out.push(first + 24)?;
+        out.push(argument as u8)?;
+    } else if argument < 1 << 16 {
+        out.push(first + 25)?;
+        out.extend_from_slice(&(argument as u16).to_be_bytes())?;
+    } else if argument < 1 << 32 {
+        out.push(first + 26)?;
+        out.extend_from_slice(&(argument as u32).to_be_bytes())?;
+    } else {
+        out.push(first + 27)?;
+        out.extend_from_slice(&argument.to_be_bytes())?;
+    }
+    Ok(())
+}
