@@ -1,2 +1,3 @@
 pub mod Behind
+pub mod DrawsMore
 pub mod Grown

@@ -1,0 +1,6 @@
+pub mod Token
+pub mod Cause
+pub mod Body
+pub mod Refusal
+pub mod Reading
+pub mod Words

@@ -1,0 +1,72 @@
+ghost use Rattle.std.specs.Prelude.{◌≡◌, ◌≤◌, ◌<◌, ◌↔◌, ◌++◌, length, vec_len, IsSome, IfSome, IfOk};
+
+use base64::engine::general_purpose::URL_SAFE_NO_PAD;
+use cbor_core::NoMemory;
+use std::alloc::Global;
+use std::marker::Model;
+
+/// The most bytes that a token has.
+pub const MOST_TOKEN_BYTES: usize = 1024;
+
+/// The value of the header field Authorization, by which a message names its session: 1 to 1,024 bytes
+/// (FIDO Device Onboard 1.1, section 4.3, HTTP binding).
+#[derive(Debug, Drop)]
+pub struct Token {
+    value: Vec<u8>,
+}
+
+impl Model for Token {
+    ghost use Rattle.std.specs.Prelude.{List, ℕ, ◌≤◌, length, vec_len};
+
+    ghost Value = { List ℕ };
+
+    ghost view = { λ t. t.value.items };
+
+    ghost invariant = { λ t. (1 ≤ length t.value.items) × (length t.value.items ≤ 1024) };
+}
+
+impl Token {
+    /// The token of these bytes, or None where they are none or more than 1,024.
+    pub fn new(value: Vec<u8>) -> Option<Token>
+        ensures valid { IsSome result ↔ ((1 ≤ length value.items) × (length value.items ≤ 1024)) }
+        ensures value { IfSome result (λ token. token ≡ value.items) }
+    {
+        if value.is_empty() || value.len() > MOST_TOKEN_BYTES {
+            return None;
+        }
+        Some(Token { value })
+    }
+
+    pub fn as_list(&self) -> &[u8]
+        ensures bytes { result.now ≡ self.now }
+        ensures some { 1 ≤ length self.now }
+        ensures most { length self.now ≤ 1024 }
+    {
+        self.value.as_slice()
+    }
+
+    pub fn copy(&self) -> Result<Token, NoMemory>
+        ensures { IfOk result (λ token. token ≡ self.now) }
+    {
+        Ok(Token {
+            value: self.value.clone()?,
+        })
+    }
+}
+
+ghost use Rattle.fdo_msgs.specs.Token.{bearer_token};
+
+/// The token of a draw: `Bearer ` and the base64url of its 16 bytes without padding, 29 bytes.
+#[tactic(auto, unfolding(crate::specs::Token::bearer_token))]
+pub fn token_text(alloc: Global, draw: &[u8; 16]) -> Result<Token, NoMemory>
+    ensures { IfOk result (λ token. token ≡ bearer_token draw.now) }
+{
+    let mut text = [0; 22];
+    if URL_SAFE_NO_PAD.encode_slice(draw, &mut text).is_err() {
+        unreachable!();
+    }
+    let mut value = Vec::with_capacity(alloc, 29)?;
+    value.extend_from_slice(b"Bearer ")?;
+    value.extend_from_slice(&text)?;
+    Ok(Token { value })
+}

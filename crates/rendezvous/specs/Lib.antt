@@ -1,0 +1,2 @@
+pub mod RvState
+pub mod RvStep

@@ -1,0 +1,86 @@
+ghost use Rattle.std.specs.Prelude.{◌≡◌, IfOk, OnErr};
+ghost use Rattle.fdo_ports.specs.Draw.{DrawsSome, drawn};
+ghost use Rattle.rendezvous.specs.RvState.{RvGivesUp};
+ghost use Rattle.rendezvous.specs.RvStep.{RvStep, HelloStep, NonceStep};
+
+use crate::received::Received;
+use cbor_core::NoMemory;
+use fdo_msgs::{Answer, Cause, Msg, Object, Packet, refuse, token_text, write_body};
+use fdo_ports::{Failed, Random};
+use std::alloc::Global;
+
+/// The rendezvous server.
+#[derive(Debug, Drop)]
+pub struct Server {}
+
+impl Server {
+    /// A server with no session.
+    pub fn new(_alloc: Global) -> Result<Server, NoMemory> {
+        Ok(Server {})
+    }
+
+    /// The server's step on one message: TO0.Hello (20), or an error (255).
+    pub fn on<N: Random>(
+        &mut self,
+        alloc: Global,
+        random: &mut N,
+        packet: &Packet,
+    ) -> Result<Answer, NoMemory>
+        ensures step { IfOk result (λ answer. RvStep (record { random = drawn (N.draws random.old) (N.faults random.old) }) packet.now answer (record { random = drawn (N.draws random.new) (N.faults random.new) })) }
+        ensures no_memory { OnErr result (RvGivesUp (record { random = drawn (N.draws random.old) (N.faults random.old) }) packet.now (record { random = drawn (N.draws random.new) (N.faults random.new) })) }
+    {
+        match Received::of(packet)? {
+            Received::PeerError => Ok(Answer::Ended),
+            Received::Unfit(cause) => refuse(alloc, cause, packet.kind, None),
+            Received::Hello => hello(alloc, random),
+        }
+    }
+}
+
+/// The answer to TO0.Hello.
+fn hello<N: Random>(alloc: Global, random: &mut N) -> Result<Answer, NoMemory>
+    ensures step { IfOk result (λ answer. HelloStep (drawn (N.draws random.old) (N.faults random.old)) answer (drawn (N.draws random.new) (N.faults random.new))) }
+    ensures no_memory { OnErr result (DrawsSome (drawn (N.draws random.old) (N.faults random.old)) (drawn (N.draws random.new) (N.faults random.new))) }
+{
+    let nonce = random.draw16();
+    with_nonce(alloc, random, nonce)
+}
+
+/// The answer to TO0.Hello with the nonce's draw.
+fn with_nonce<N: Random>(
+    alloc: Global,
+    random: &mut N,
+    nonce: Result<[u8; 16], Failed>,
+) -> Result<Answer, NoMemory>
+    ensures step { IfOk result (λ answer. NonceStep nonce (drawn (N.draws random.old) (N.faults random.old)) answer (drawn (N.draws random.new) (N.faults random.new))) }
+    ensures no_memory { OnErr result (DrawsSome (drawn (N.draws random.old) (N.faults random.old)) (drawn (N.draws random.new) (N.faults random.new))) }
+{
+    let Ok(nonce) = nonce else {
+        return refuse(alloc, Cause::Outside(Object::Random), 20, None);
+    };
+    let token = random.draw16();
+    hello_ack(alloc, nonce, token)
+}
+
+ghost use Rattle.rendezvous.specs.RvStep.{TokenStep};
+
+/// The answer to TO0.Hello with both draws.
+#[tactic(auto, unfolding(crate::specs::RvStep::hello_ack))]
+fn hello_ack(
+    alloc: Global,
+    nonce: [u8; 16],
+    token: Result<[u8; 16], Failed>,
+) -> Result<Answer, NoMemory>
+    ensures { IfOk result (λ answer. TokenStep nonce token answer) }
+{
+    let Ok(token) = token else {
+        return refuse(alloc, Cause::Outside(Object::Random), 20, None);
+    };
+    let token = token_text(alloc, &token)?;
+    let body = write_body(alloc, &Msg::HelloAck(nonce))?;
+    Ok(Answer::Reply(Packet {
+        token: Some(token),
+        kind: 21,
+        body,
+    }))
+}
