@@ -1,6 +1,6 @@
 -- The core deterministic encoding (RFC 8949, section 4.2.1): shortest arguments, definite lengths, and map keys
 -- in the bytewise lexicographic order of their own deterministic encodings.
-use Rattle.std.specs.Prelude.{ℕ, List, [], ◌∷◌, ◌++◌, length, fold, flat_map}
+use Rattle.std.specs.Prelude.{ℕ, List, [], ◌++◌, length, fold, flat_map}
 use Rattle.std.specs.List.{concat}
 use Rattle.std.specs.Ordering.{nat_cmp}
 use Rattle.std.specs.Cmp.Lexicographic.{slice_cmp}

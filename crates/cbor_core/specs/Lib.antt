@@ -1,2 +1,4 @@
-pub mod Head
 pub mod Deterministic
+pub mod Head
+pub mod Keys
+pub mod Reading

@@ -3,13 +3,21 @@
 
 pub mod blob;
 mod copy;
+pub mod fault;
+pub mod head;
 pub mod item;
+mod keys;
 pub mod no_memory;
+pub mod read;
+mod read_head;
+mod strings;
 pub mod text;
 pub mod write;
 
 pub use blob::Blob;
+pub use fault::CborFault;
 pub use item::{Item, Items, Pairs};
 pub use no_memory::NoMemory;
+pub use read::{read_det, read_wire};
 pub use text::Text;
 pub use write::write_det;

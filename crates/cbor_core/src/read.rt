@@ -1,0 +1,352 @@
+ghost use Rattle.std.specs.Prelude.{◌≡◌, [], length, false, true, OnOk, Err};
+ghost use Rattle.cbor_core.specs.declared.head.Major.TheVariants as major;
+ghost use Rattle.cbor_core.specs.Reading.{Gives, Fails, content_at, row_at, open_at, item_step, pair_step, key_spellings, admitted, demanded, sized_in, open_in, item_in, buried_sized, buried_open, buried_in, item_at, first_item};
+ghost use Rattle.cbor_core.specs.Keys.{key_set};
+
+use crate::blob::Blob;
+use crate::fault::CborFault;
+use crate::head::{Head, Major};
+use crate::item::{Item, Items, Pairs};
+use crate::keys::admit;
+use crate::read_head::read_head;
+use crate::strings::{is_break, read_byte_chunks, read_bytes, read_text, read_text_chunks};
+use crate::text::Text;
+use crate::write::write_det;
+use sqlite_items::Boxed;
+use std::alloc::Global;
+use std::collections::BTreeSet;
+
+/// The item at the front of the bytes, and how many bytes it takes. Bytes may follow. The first fault in reading
+/// order is answered, and never `NotDeterministic`.
+pub fn read_wire(alloc: Global, bytes: &[u8]) -> Result<(Item, usize), CborFault>
+    ensures { Gives (λ x. (x.0, x.1)) result (first_item false bytes.now) }
+{
+    read_first(alloc, false, bytes)
+}
+
+/// The same for the deterministic spelling alone: `NotDeterministic` is answered where the first fault in reading
+/// order is a spelling that is not the deterministic one.
+pub fn read_det(alloc: Global, bytes: &[u8]) -> Result<(Item, usize), CborFault>
+    ensures { Gives (λ x. (x.0, x.1)) result (first_item true bytes.now) }
+{
+    read_first(alloc, true, bytes)
+}
+
+fn read_first(alloc: Global, strict: bool, bytes: &[u8]) -> Result<(Item, usize), CborFault>
+    ensures { Gives (λ x. (x.0, x.1)) result (first_item strict bytes.now) }
+{
+    match read_item(alloc, strict, bytes.len(), 16, bytes) {
+        Ok((item, rest)) => Ok((item, bytes.len().saturating_sub(rest.len()))),
+        Err(fault) => Err(fault),
+    }
+}
+
+/// The item at the front of the bytes, with so many levels left for it and what is inside it.
+#[cycle(reading)]
+#[tactic(auto, unfolding(crate::specs::Reading::item_at))]
+fn read_item(
+    alloc: Global,
+    strict: bool,
+    total: usize,
+    levels: u8,
+    bytes: &[u8],
+) -> Result<(Item, &[u8]), CborFault>
+    ensures { Gives (λ x. (x.0, x.1.now)) result (item_at strict total levels bytes.now) }
+{
+    let place = total.saturating_sub(bytes.len());
+    let (head, rest) = read_head(place, bytes)?;
+    if levels == 0 {
+        Err(refuse_buried(place, head, rest))
+    } else {
+        read_content(alloc, strict, total, levels - 1, place, head, rest)
+    }
+}
+
+#[cycle(reading)]
+fn read_content(
+    alloc: Global,
+    strict: bool,
+    total: usize,
+    levels: u8,
+    place: usize,
+    head: Head,
+    rest: &[u8],
+) -> Result<(Item, &[u8]), CborFault>
+    ensures { Gives (λ x. (x.0, x.1.now)) result (item_in strict total (item_at strict total levels) place head rest.now) }
+{
+    match head {
+        Head::Sized(major, n, shortest) => {
+            read_sized(
+                alloc, strict, total, levels, place, major, n, shortest, rest,
+            )
+        }
+        Head::Open(major) => read_open(alloc, strict, total, levels, place, major, rest),
+        Head::Simple(value) => Ok((Item::Simple(value), rest)),
+        Head::Float => Err(CborFault::Float(place)),
+        Head::Break => Err(CborFault::Malformed(place)),
+        Head::Reserved => Err(CborFault::Malformed(place)),
+    }
+}
+
+#[cycle(reading)]
+fn read_sized(
+    alloc: Global,
+    strict: bool,
+    total: usize,
+    levels: u8,
+    place: usize,
+    major: Major,
+    n: u64,
+    shortest: bool,
+    rest: &[u8],
+) -> Result<(Item, &[u8]), CborFault>
+    ensures { Gives (λ x. (x.0, x.1.now)) result (sized_in strict total (item_at strict total levels) place major n shortest rest.now) }
+{
+    match major {
+        Major::Bytes => {
+            let (content, after) = read_bytes(place, n, rest)?;
+            demand(strict, shortest, place)?;
+            Ok((Item::Bytes(Blob::from_slice(alloc, content)?), after))
+        }
+        Major::Text => {
+            let (content, after) = read_text(place, n, rest)?;
+            demand(strict, shortest, place)?;
+            Ok((Item::Text(Text::from_str(alloc, content)?), after))
+        }
+        Major::Unsigned => {
+            demand(strict, shortest, place)?;
+            Ok((Item::Uint(n), rest))
+        }
+        Major::Negative => {
+            demand(strict, shortest, place)?;
+            Ok((Item::Nint(n), rest))
+        }
+        Major::Array => {
+            demand(strict, shortest, place)?;
+            let (items, after) = read_items(alloc, strict, total, levels, n, rest)?;
+            Ok((Item::Array(items), after))
+        }
+        Major::Map => {
+            demand(strict, shortest, place)?;
+            let (pairs, after) = read_pairs(alloc, strict, total, levels, n, rest)?;
+            Ok((Item::Map(pairs), after))
+        }
+        Major::Tag => {
+            demand(strict, shortest, place)?;
+            let (content, after) = read_item(alloc, strict, total, levels, rest)?;
+            Ok((Item::Tag(n, Boxed::new(alloc, content)?), after))
+        }
+    }
+}
+
+#[cycle(reading)]
+fn read_open(
+    alloc: Global,
+    strict: bool,
+    total: usize,
+    levels: u8,
+    place: usize,
+    major: Major,
+    rest: &[u8],
+) -> Result<(Item, &[u8]), CborFault>
+    ensures { Gives (λ x. (x.0, x.1.now)) result (open_in strict total (item_at strict total levels) place major rest.now) }
+{
+    match major {
+        Major::Bytes => {
+            demand(strict, false, place)?;
+            let (content, after) = read_byte_chunks(alloc, total, rest)?;
+            Ok((Item::Bytes(content), after))
+        }
+        Major::Text => {
+            demand(strict, false, place)?;
+            let (content, after) = read_text_chunks(alloc, total, rest)?;
+            Ok((Item::Text(content), after))
+        }
+        Major::Array => {
+            demand(strict, false, place)?;
+            let (items, after) = read_open_items(alloc, strict, total, levels, rest)?;
+            Ok((Item::Array(items), after))
+        }
+        Major::Map => {
+            demand(strict, false, place)?;
+            let (pairs, after) = read_open_pairs(alloc, strict, total, levels, rest)?;
+            Ok((Item::Map(pairs), after))
+        }
+        _ => Err(CborFault::Malformed(place)),
+    }
+}
+
+fn demand(strict: bool, deterministic: bool, place: usize) -> Result<(), CborFault>
+    ensures { Gives (λ x. x) result (demanded strict deterministic place) }
+{
+    if strict && !deterministic {
+        Err(CborFault::NotDeterministic(place))
+    } else {
+        Ok(())
+    }
+}
+
+/// The fault of an item below the deepest level.
+fn refuse_buried(place: usize, head: Head, rest: &[u8]) -> CborFault
+    ensures { Fails result (buried_in place head rest.now) }
+{
+    match head {
+        Head::Sized(Major::Bytes, n, _) => match read_bytes(place, n, rest) {
+            Ok(_) => CborFault::TooDeep(place),
+            Err(fault) => fault,
+        },
+        Head::Sized(Major::Text, n, _) => match read_text(place, n, rest) {
+            Ok(_) => CborFault::TooDeep(place),
+            Err(fault) => fault,
+        },
+        Head::Sized(_, _, _) => CborFault::TooDeep(place),
+        Head::Open(Major::Bytes) => CborFault::TooDeep(place),
+        Head::Open(Major::Text) => CborFault::TooDeep(place),
+        Head::Open(Major::Array) => CborFault::TooDeep(place),
+        Head::Open(Major::Map) => CborFault::TooDeep(place),
+        Head::Open(_) => CborFault::Malformed(place),
+        Head::Simple(_) => CborFault::TooDeep(place),
+        Head::Float => CborFault::Float(place),
+        Head::Break => CborFault::Malformed(place),
+        Head::Reserved => CborFault::Malformed(place),
+    }
+}
+
+#[cycle(reading)]
+#[tactic(auto, using(crate::proofs::Loops::row_more, crate::proofs::Loops::row_fails, crate::proofs::Loops::row_ends))]
+fn read_items(
+    alloc: Global,
+    strict: bool,
+    total: usize,
+    levels: u8,
+    n: u64,
+    bytes: &[u8],
+) -> Result<(Items, &[u8]), CborFault>
+    ensures { Gives (λ x. (x.0, x.1.now)) result (row_at (item_step (item_at strict total levels)) n [] bytes.now) }
+{
+    let mut items = Items::new(alloc);
+    let mut rest = bytes;
+    for _turn in 0..n {
+        match next_item(alloc, strict, total, levels, &mut items, rest) {
+            Ok(after) => rest = after,
+            Err(fault) => return Err(fault),
+        }
+    }
+    Ok((items, rest))
+}
+
+#[cycle(reading)]
+#[tactic(auto, using(crate::proofs::Loops::open_more, crate::proofs::Loops::open_fails, crate::proofs::Loops::open_ends, crate::proofs::Loops::open_over))]
+fn read_open_items(
+    alloc: Global,
+    strict: bool,
+    total: usize,
+    levels: u8,
+    bytes: &[u8],
+) -> Result<(Items, &[u8]), CborFault>
+    ensures { Gives (λ x. (x.0, x.1.now)) result (open_at (item_step (item_at strict total levels)) total (length bytes.now) [] bytes.now) }
+{
+    let mut items = Items::new(alloc);
+    let mut rest = bytes;
+    for _turn in 0..bytes.len() {
+        if is_break(rest) {
+            return Ok((items, rest.split_at(1).1));
+        }
+        match next_item(alloc, strict, total, levels, &mut items, rest) {
+            Ok(after) => rest = after,
+            Err(fault) => return Err(fault),
+        }
+    }
+    Err(CborFault::Truncated(total))
+}
+
+/// Reads an element and puts it behind those read before.
+#[cycle(reading)]
+fn next_item<'a>(
+    alloc: Global,
+    strict: bool,
+    total: usize,
+    levels: u8,
+    items: &mut Items,
+    bytes: &'a [u8],
+) -> Result<&'a [u8], CborFault>
+    ensures { Gives (λ rest. (items.new, rest.now)) result (item_step (item_at strict total levels) items.old bytes.now) }
+{
+    let (item, after) = read_item(alloc, strict, total, levels, bytes)?;
+    items.push(item)?;
+    Ok(after)
+}
+
+#[cycle(reading)]
+#[tactic(auto, using(crate::proofs::Loops::row_more, crate::proofs::Loops::row_fails, crate::proofs::Loops::row_ends))]
+fn read_pairs(
+    alloc: Global,
+    strict: bool,
+    total: usize,
+    levels: u8,
+    n: u64,
+    bytes: &[u8],
+) -> Result<(Pairs, &[u8]), CborFault>
+    ensures { Gives (λ x. (x.0, x.1.now)) result (row_at (pair_step strict total (item_at strict total levels)) n [] bytes.now) }
+{
+    let mut pairs = Pairs::new(alloc);
+    let mut keys = BTreeSet::new(alloc);
+    let mut rest = bytes;
+    for _turn in 0..n {
+        match next_pair(alloc, strict, total, levels, &mut pairs, &mut keys, rest) {
+            Ok(after) => rest = after,
+            Err(fault) => return Err(fault),
+        }
+    }
+    Ok((pairs, rest))
+}
+
+#[cycle(reading)]
+#[tactic(auto, using(crate::proofs::Loops::open_more, crate::proofs::Loops::open_fails, crate::proofs::Loops::open_ends, crate::proofs::Loops::open_over))]
+fn read_open_pairs(
+    alloc: Global,
+    strict: bool,
+    total: usize,
+    levels: u8,
+    bytes: &[u8],
+) -> Result<(Pairs, &[u8]), CborFault>
+    ensures { Gives (λ x. (x.0, x.1.now)) result (open_at (pair_step strict total (item_at strict total levels)) total (length bytes.now) [] bytes.now) }
+{
+    let mut pairs = Pairs::new(alloc);
+    let mut keys = BTreeSet::new(alloc);
+    let mut rest = bytes;
+    for _turn in 0..bytes.len() {
+        if is_break(rest) {
+            return Ok((pairs, rest.split_at(1).1));
+        }
+        match next_pair(alloc, strict, total, levels, &mut pairs, &mut keys, rest) {
+            Ok(after) => rest = after,
+            Err(fault) => return Err(fault),
+        }
+    }
+    Err(CborFault::Truncated(total))
+}
+
+/// Reads a key and its value and puts them behind those read before, whose keys' spellings are `keys`.
+#[cycle(reading)]
+#[tactic(auto, using(crate::proofs::KeySets::admitted_by_set), unfolding(crate::specs::Reading::pair_step))]
+fn next_pair<'a>(
+    alloc: Global,
+    strict: bool,
+    total: usize,
+    levels: u8,
+    pairs: &mut Pairs,
+    keys: &mut BTreeSet<Blob>,
+    bytes: &'a [u8],
+) -> Result<&'a [u8], CborFault>
+    requires { keys.old.keys ≡ key_set (key_spellings pairs.old) }
+    ensures gives { Gives (λ rest. (pairs.new, rest.now)) result (pair_step strict total (item_at strict total levels) pairs.old bytes.now) }
+    ensures keys { OnOk result (keys.new.keys ≡ key_set (key_spellings pairs.new)) }
+{
+    let place = total.saturating_sub(bytes.len());
+    let (key, rest) = read_item(alloc, strict, total, levels, bytes)?;
+    admit(strict, place, keys, write_det(alloc, &key)?)?;
+    let (value, after) = read_item(alloc, strict, total, levels, rest)?;
+    pairs.push((key, value))?;
+    Ok(after)
+}
