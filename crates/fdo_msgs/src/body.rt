@@ -1,9 +1,11 @@
-ghost use Rattle.std.specs.Prelude.{◌≡◌, IfOk};
+ghost use Rattle.std.specs.Prelude.{◌≡◌, false, length, IfOk};
+ghost use Rattle.cbor_core.specs.declared.item.Item.{out-Item};
+ghost use Rattle.cbor_core.specs.Reading.{first_item};
 ghost use Rattle.fdo_msgs.specs.Body.{body_of, item_of};
-ghost use Rattle.fdo_msgs.specs.Reading.{ReadsBody};
+ghost use Rattle.fdo_msgs.specs.Reading.{ReadsBody, IsFault, body_at, hello_of, hello_in, empty_array};
 
 use crate::msg::Msg;
-use cbor_core::{Blob, Item, Items, NoMemory, write_det};
+use cbor_core::{Blob, CborFault, Item, Items, NoMemory, read_wire, write_det};
 use std::alloc::Global;
 
 /// Why a body is not read.
@@ -15,13 +17,57 @@ pub enum BodyFault {
 }
 
 /// The message that a body of a type says, all bytes of it.
-pub fn read_body(kind: u8, bytes: &[u8]) -> Result<Msg, BodyFault>
-    ensures { ReadsBody kind bytes.now result }
+#[tactic(auto, unfolding(crate::specs::Reading::body_at))]
+pub fn read_body(alloc: Global, kind: u8, bytes: &[u8]) -> Result<Msg, BodyFault>
+    ensures { ReadsBody (body_at kind bytes.now) result }
 {
-    match (kind, bytes) {
-        (20, [128]) => Ok(Msg::Hello),
-        (20, [128, ..]) => Err(BodyFault::Body(1)),
+    match kind {
+        20 => read_hello(alloc, bytes),
         _ => Err(BodyFault::Body(0)),
+    }
+}
+
+fn read_hello(alloc: Global, bytes: &[u8]) -> Result<Msg, BodyFault>
+    ensures { ReadsBody (hello_of (length bytes.now) (first_item false bytes.now)) result }
+{
+    match read_wire(alloc, bytes) {
+        Ok((item, read)) => hello(&item, read, bytes.len()),
+        Err(fault) => Err(body_fault(fault)),
+    }
+}
+
+fn hello(item: &Item, read: usize, total: usize) -> Result<Msg, BodyFault>
+    ensures { ReadsBody (hello_in total item.now read) result }
+{
+    if !is_empty_array(item) {
+        return Err(BodyFault::Body(0));
+    }
+    if read != total {
+        return Err(BodyFault::Body(read));
+    }
+    Ok(Msg::Hello)
+}
+
+fn is_empty_array(item: &Item) -> bool
+    ensures { result ≡ empty_array (out-Item item.now) }
+{
+    match item {
+        Item::Array(items) => matches!(items.as_slice(), []),
+        _ => false,
+    }
+}
+
+fn body_fault(fault: CborFault) -> BodyFault
+    ensures { IsFault fault result }
+{
+    match fault {
+        CborFault::Truncated(place)
+        | CborFault::Malformed(place)
+        | CborFault::TooDeep(place)
+        | CborFault::Duplicate(place)
+        | CborFault::Float(place)
+        | CborFault::NotDeterministic(place) => BodyFault::Body(place),
+        CborFault::NoMemory => BodyFault::NoMemory,
     }
 }
 

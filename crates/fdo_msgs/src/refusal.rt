@@ -41,7 +41,12 @@ pub fn error_packet(
 }
 
 /// The refusal of a message of a type, with its error message.
-pub fn refuse(alloc: Global, cause: Cause, kind: u8, token: Option<Token>) -> Result<Answer, NoMemory>
+pub fn refuse(
+    alloc: Global,
+    cause: Cause,
+    kind: u8,
+    token: Option<Token>,
+) -> Result<Answer, NoMemory>
     requires { IsSome (code_of cause kind) }
     ensures { IfOk result (λ answer. answer ≡ Answer.Refused (error_of cause kind token) cause) }
 {

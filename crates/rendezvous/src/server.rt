@@ -29,7 +29,7 @@ impl Server {
         ensures step { IfOk result (λ answer. RvStep (record { random = drawn (N.draws random.old) (N.faults random.old) }) packet.now answer (record { random = drawn (N.draws random.new) (N.faults random.new) })) }
         ensures no_memory { OnErr result (RvGivesUp (record { random = drawn (N.draws random.old) (N.faults random.old) }) packet.now (record { random = drawn (N.draws random.new) (N.faults random.new) })) }
     {
-        match Received::of(packet)? {
+        match Received::of(alloc, packet)? {
             Received::PeerError => Ok(Answer::Ended),
             Received::Unfit(cause) => refuse(alloc, cause, packet.kind, None),
             Received::Hello => hello(alloc, random),
