@@ -63,3 +63,12 @@ cut_once mark (x ∷ a) b (y ∷ c) d la lc same =
     let head : x ≡ y = cc in
     let rest = cut_once mark a b c d la.1 lc.1 (ap (drop 1) same) in
     (cc, rest.1)
+
+-- what a byte parts does not lack it
+pub not_lacking : (mark : ℕ) (front rest : List ℕ) → Lacks mark (front ++ mark ∷ rest) → ⊥
+not_lacking mark [] rest lacks = lacks.0 refl
+not_lacking mark (x ∷ front) rest lacks = not_lacking mark front rest lacks.1
+
+pub lacks_both : (mark : ℕ) (a b : List ℕ) → Lacks mark a → Lacks mark b → Lacks mark (a ++ b)
+lacks_both mark [] b la lb = lb
+lacks_both mark (x ∷ a) b la lb = (la.0, lacks_both mark a b la.1 lb)

@@ -4,3 +4,4 @@ pub mod Body
 pub mod Refusal
 pub mod Reading
 pub mod Words
+pub mod Run

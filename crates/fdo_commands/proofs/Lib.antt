@@ -1,0 +1,6 @@
+pub mod HexWords
+pub mod LineParts
+pub mod LineFeeds
+pub mod AnswersMore
+pub mod TookMore
+pub mod EndingMore

@@ -1,0 +1,17 @@
+use Rattle.std.proofs.Common.{◌≡◌}
+use Rattle.fdo_commands.proofs.AnswersMore.{AnswersFirst}
+use Rattle.fdo_commands.proofs.answers.answer_all.Given as goal
+
+-- the messages so far are answered
+abbrev pub invariant-loop-packet : goal.invariant-loop-packet
+invariant-loop-packet g l =
+    let state = g.H.Handler.state in
+    let written = g.O.Channel.written in
+    record {
+      first : AnswersFirst g.H.Handler.Steps (state l.fn.handler) l.packets l.packet-index (state l.handler) (written l.fn.output) (written l.output) l.fault;
+      ready : g.H.Handler.ready l.handler;
+      objects : g.H.Handler.objects l.handler ≡ g.H.Handler.objects l.fn.handler;
+      faults : g.O.Channel.write_faults l.output ≡ g.O.Channel.write_faults l.fn.output;
+      left : g.O.Channel.left l.output ≡ g.O.Channel.left l.fn.output;
+      reads : g.O.Channel.read_faults l.output ≡ g.O.Channel.read_faults l.fn.output;
+    }

@@ -1,0 +1,39 @@
+ghost use Rattle.std.specs.Prelude.{◌≡◌, ◌≤◌, ◌++◌, length, codes};
+ghost use Rattle.fdo_commands.specs.Ending.{EndsWith, wrong_input};
+
+use arrayvec::ArrayString;
+use fdo_ports::{Sink, write_all};
+use itoa::Buffer;
+
+/// Writes the last line of a command that ended with a fault. Where the output fails, the line lacks something at
+/// its end, and the status of the command stays.
+pub(crate) fn end_with<O: Sink>(output: &mut O, line: &[u8])
+    ensures line { EndsWith (O.Channel.written output.old) (O.Channel.write_faults output.old) (O.Channel.written output.new) (O.Channel.write_faults output.new) line.now }
+    ensures same_left { O.Channel.left output.new ≡ O.Channel.left output.old }
+    ensures same_read_faults { O.Channel.read_faults output.new ≡ O.Channel.read_faults output.old }
+{
+    let _ = write_all(output, line);
+}
+
+/// The same for an input that is not of the command's form, at this byte.
+pub(crate) fn end_with_place<O: Sink>(output: &mut O, place: usize)
+    ensures line { EndsWith (O.Channel.written output.old) (O.Channel.write_faults output.old) (O.Channel.written output.new) (O.Channel.write_faults output.new) (wrong_input place) }
+    ensures same_left { O.Channel.left output.new ≡ O.Channel.left output.old }
+    ensures same_read_faults { O.Channel.read_faults output.new ≡ O.Channel.read_faults output.old }
+{
+    let mut number = Buffer::new();
+    let line = wrong_input_line(number.format(place));
+    end_with(output, line.as_str().as_bytes());
+}
+
+/// That line, with the place's digits.
+fn wrong_input_line(digits: &str) -> ArrayString<40>
+    requires { length digits.now ≤ 20 }
+    ensures { result.bytes ≡ codes "fault input " ++ digits.now ++ codes "\n" }
+{
+    let mut line = ArrayString::new();
+    line.push_str("fault input ");
+    line.push_str(digits);
+    line.push_str("\n");
+    line
+}

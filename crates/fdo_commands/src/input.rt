@@ -1,0 +1,42 @@
+ghost use Rattle.std.specs.Prelude.{◌≡◌};
+ghost use Rattle.fdo_commands.specs.Stream.{ReadsInput, InputCounts};
+
+use fdo_ports::Source;
+use std::alloc::Global;
+
+/// The most bytes that the input of a command has.
+pub const MOST_INPUT_BYTES: usize = 16_777_216;
+
+/// Why the input is not read to its end.
+#[derive(Clone, Copy, Debug, PartialEq, Eq)]
+pub(crate) enum InputFault {
+    /// The input failed.
+    Read,
+    /// It has more than the most bytes.
+    Limit,
+    NoMemory,
+}
+
+/// All bytes of the input to its end, where they are no more than the most.
+#[tactic(auto, using(crate::proofs::TookMore::took_nothing, crate::proofs::TookMore::took_more))]
+pub(crate) fn read_input<I: Source>(alloc: Global, input: &mut I) -> Result<Vec<u8>, InputFault>
+    ensures bytes { ReadsInput (I.Channel.left input.old) (I.Channel.left input.new) result }
+    ensures faults { InputCounts (I.Channel.read_faults input.old) (I.Channel.read_faults input.new) result }
+    ensures same_written { I.Channel.written input.new ≡ I.Channel.written input.old }
+    ensures same_write_faults { I.Channel.write_faults input.new ≡ I.Channel.write_faults input.old }
+{
+    let mut all = Vec::new(alloc);
+    let mut buffer = [0; 16384];
+    while all.len() <= MOST_INPUT_BYTES {
+        match input.read(&mut buffer) {
+            Ok(0) => return Ok(all),
+            Ok(count) => {
+                if all.extend_from_slice(buffer.split_at(count).0).is_err() {
+                    return Err(InputFault::NoMemory);
+                }
+            }
+            Err(_) => return Err(InputFault::Read),
+        }
+    }
+    Err(InputFault::Limit)
+}

@@ -1,0 +1,16 @@
+//! The commands of the program over the objects of the outside: the top call `fdo`.
+#![tactic(auto)]
+
+mod answers;
+pub mod command;
+mod fault_line;
+mod input;
+mod line;
+mod lines;
+pub mod status;
+mod step;
+pub mod top;
+
+pub use command::Command;
+pub use status::Status;
+pub use top::fdo;

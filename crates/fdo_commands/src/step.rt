@@ -1,0 +1,77 @@
+ghost use Rattle.std.specs.Prelude.{◌≡◌};
+ghost use Rattle.fdo_commands.specs.Ending.{AnswersBytes, Ends, streams};
+
+use crate::answers::{Stop, answer_all};
+use crate::fault_line::{end_with, end_with_place};
+use crate::input::{InputFault, read_input};
+use crate::lines::{LinesFault, read_lines};
+use crate::status::Status;
+use fdo_msgs::Handler;
+use fdo_ports::{Sink, Source};
+use std::alloc::Global;
+
+/// Reads messages, a line each, and prints the role's answers to them, a line each.
+pub(crate) fn step<H: Handler, I: Source, O: Sink>(
+    alloc: Global,
+    handler: &mut H,
+    input: &mut I,
+    output: &mut O,
+) -> Status
+    requires { H.ready handler.old }
+    ensures ends { Ends H.Steps H.GivesUp (H.state handler.old) (H.state handler.new)
+        (streams (I.Channel.left input.old) (I.Channel.read_faults input.old) (O.Channel.written output.old) (O.Channel.write_faults output.old))
+        (streams (I.Channel.left input.new) (I.Channel.read_faults input.new) (O.Channel.written output.new) (O.Channel.write_faults output.new)) result }
+    ensures ready { H.ready handler.new }
+    ensures objects { H.objects handler.new ≡ H.objects handler.old }
+    ensures input_written { I.Channel.written input.new ≡ I.Channel.written input.old }
+    ensures input_write_faults { I.Channel.write_faults input.new ≡ I.Channel.write_faults input.old }
+    ensures output_left { O.Channel.left output.new ≡ O.Channel.left output.old }
+    ensures output_read_faults { O.Channel.read_faults output.new ≡ O.Channel.read_faults output.old }
+{
+    match read_input(alloc, input) {
+        Ok(bytes) => answer_bytes(alloc, handler, bytes.as_slice(), output),
+        Err(InputFault::Read) => {
+            end_with(output, b"fault read\n");
+            Status::Read
+        }
+        Err(InputFault::Limit) => {
+            end_with(output, b"fault limit\n");
+            Status::Limit
+        }
+        Err(InputFault::NoMemory) => Status::NoMemory,
+    }
+}
+
+/// Prints the role's answers to the messages that the bytes say, a line each.
+fn answer_bytes<H: Handler, O: Sink>(
+    alloc: Global,
+    handler: &mut H,
+    bytes: &[u8],
+    output: &mut O,
+) -> Status
+    requires { H.ready handler.old }
+    ensures answers { AnswersBytes H.Steps H.GivesUp (H.state handler.old) (H.state handler.new) bytes.now
+        (O.Channel.written output.old) (O.Channel.write_faults output.old) (O.Channel.written output.new) (O.Channel.write_faults output.new) result }
+    ensures ready { H.ready handler.new }
+    ensures objects { H.objects handler.new ≡ H.objects handler.old }
+    ensures same_left { O.Channel.left output.new ≡ O.Channel.left output.old }
+    ensures same_read_faults { O.Channel.read_faults output.new ≡ O.Channel.read_faults output.old }
+{
+    let packets = match read_lines(alloc, bytes) {
+        Ok(packets) => packets,
+        Err(LinesFault::Wrong(place)) => {
+            end_with_place(output, place);
+            return Status::Input;
+        }
+        Err(LinesFault::NoMemory) => return Status::NoMemory,
+    };
+    match answer_all(alloc, handler, packets.as_slice(), output) {
+        Ok(false) => Status::Done,
+        Ok(true) => {
+            end_with(output, b"fault random\n");
+            Status::Random
+        }
+        Err(Stop::Write) => Status::Write,
+        Err(Stop::NoMemory) => Status::NoMemory,
+    }
+}

@@ -1,0 +1,79 @@
+ghost use Rattle.std.specs.Prelude.{◌≡◌, ◌↔◌};
+ghost use Rattle.fdo_commands.specs.declared.command.Command.{Command};
+ghost use Rattle.fdo_commands.specs.declared.status.Status.TheVariants as status;
+ghost use Rattle.fdo_ports.specs.Count.{Rises};
+ghost use Rattle.fdo_commands.specs.Commands.{Names};
+ghost use Rattle.fdo_commands.specs.Ran.{Ran, RanNone, outside};
+
+use crate::command::Command;
+use crate::fault_line::end_with;
+use crate::status::Status;
+use crate::step::step;
+use cbor_core::Text;
+use fdo_ports::{Random, Sink, Source};
+use rendezvous::{RvHandler, Server};
+use std::alloc::Global;
+
+/// Runs the command that the words name over these objects of the outside, and says how it ended.
+pub fn fdo<I: Source, O: Sink, N: Random>(
+    alloc: Global,
+    words: &[Text],
+    input: &mut I,
+    output: &mut O,
+    random: &mut N,
+) -> Status
+    ensures words { (result ≡ status.Words) ↔ ((command : Command) → Names words.now command → ⊥) }
+    ensures none { result ≡ status.Words → RanNone
+        (outside (I.Channel.left input.old) (I.Channel.read_faults input.old) (O.Channel.written output.old) (O.Channel.write_faults output.old) (N.draws random.old) (N.faults random.old))
+        (outside (I.Channel.left input.new) (I.Channel.read_faults input.new) (O.Channel.written output.new) (O.Channel.write_faults output.new) (N.draws random.new) (N.faults random.new)) }
+    ensures ran { (command : Command) → Names words.now command → Ran command
+        (outside (I.Channel.left input.old) (I.Channel.read_faults input.old) (O.Channel.written output.old) (O.Channel.write_faults output.old) (N.draws random.old) (N.faults random.old))
+        (outside (I.Channel.left input.new) (I.Channel.read_faults input.new) (O.Channel.written output.new) (O.Channel.write_faults output.new) (N.draws random.new) (N.faults random.new)) result }
+    ensures input_written { I.Channel.written input.new ≡ I.Channel.written input.old }
+    ensures input_write_faults { I.Channel.write_faults input.new ≡ I.Channel.write_faults input.old }
+    ensures output_left { O.Channel.left output.new ≡ O.Channel.left output.old }
+    ensures output_read_faults { O.Channel.read_faults output.new ≡ O.Channel.read_faults output.old }
+{
+    match Command::of(words) {
+        Some(Command::StepRendezvous) => step_rendezvous(alloc, input, output, random),
+        None => {
+            end_with(output, b"fault words\n");
+            Status::Words
+        }
+    }
+}
+
+ghost use Rattle.fdo_commands.specs.Ending.{Ends, streams};
+ghost use Rattle.fdo_ports.specs.Draw.{drawn};
+ghost use Rattle.rendezvous.specs.RvState.{RvGivesUp};
+ghost use Rattle.rendezvous.specs.RvStep.{RvStep};
+
+/// Answers messages, a line each, as the rendezvous server.
+fn step_rendezvous<I: Source, O: Sink, N: Random>(
+    alloc: Global,
+    input: &mut I,
+    output: &mut O,
+    random: &mut N,
+) -> Status
+    ensures ends { Ends RvStep RvGivesUp (record { random = drawn (N.draws random.old) (N.faults random.old) }) (record { random = drawn (N.draws random.new) (N.faults random.new) })
+        (streams (I.Channel.left input.old) (I.Channel.read_faults input.old) (O.Channel.written output.old) (O.Channel.write_faults output.old))
+        (streams (I.Channel.left input.new) (I.Channel.read_faults input.new) (O.Channel.written output.new) (O.Channel.write_faults output.new)) result }
+    ensures input_written { I.Channel.written input.new ≡ I.Channel.written input.old }
+    ensures input_write_faults { I.Channel.write_faults input.new ≡ I.Channel.write_faults input.old }
+    ensures output_left { O.Channel.left output.new ≡ O.Channel.left output.old }
+    ensures output_read_faults { O.Channel.read_faults output.new ≡ O.Channel.read_faults output.old }
+{
+    let Ok(mut server) = Server::new(alloc) else {
+        return Status::NoMemory;
+    };
+    let mut handler = RvHandler {
+        server: &mut server,
+        random,
+    };
+    let ending = step(alloc, &mut handler, input, output);
+    let RvHandler {
+        server: _server,
+        random: _random,
+    } = handler;
+    ending
+}
