@@ -2,3 +2,4 @@ pub mod Deterministic
 pub mod Head
 pub mod Keys
 pub mod Reading
+pub mod Spelling
