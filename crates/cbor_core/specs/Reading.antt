@@ -129,11 +129,18 @@ item_step read front bytes = read bytes >>= λ x. Ok (front ++ x.0 ∷ [], x.1)
 abbrev pub key_spellings : List (Item × Item) → List (List ℕ)
 key_spellings pairs = map (λ p. det p.0) pairs
 
--- a key against the keys before it (sections 5.6 and 4.2.1): none is equal, and where the spelling is to be deterministic, none is above
+-- whether a spelling is one of some, and whether it is below one of them in the bytewise lexicographic order
+abbrev pub is_among : List (List ℕ) → List ℕ → Bool
+is_among keys key = list_any (λ k. is_eq (slice_cmp nat_cmp key k)) keys
+
+abbrev pub is_below_one : List (List ℕ) → List ℕ → Bool
+is_below_one keys key = list_any (λ k. is_lt (slice_cmp nat_cmp key k)) keys
+
+-- a key against the keys before it (sections 5.6 and 4.2.1)
 abbrev pub admitted : Bool → ℕ → List (List ℕ) → List ℕ → Result (Unit {0}) CborFault
 admitted strict place keys key =
-    if list_any (λ k. is_eq (slice_cmp nat_cmp key k)) keys then Err (fault.Duplicate place)
-    else if strict && list_any (λ k. is_lt (slice_cmp nat_cmp key k)) keys then Err (fault.NotDeterministic place)
+    if is_among keys key then Err (fault.Duplicate place)
+    else if strict && is_below_one keys key then Err (fault.NotDeterministic place)
     else Ok tt
 
 unfoldable pub pair_step : Bool → ℕ → (List ℕ → Read Item) → List (Item × Item) → List ℕ → Read (List (Item × Item))

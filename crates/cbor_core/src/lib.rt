@@ -7,6 +7,7 @@ pub mod fault;
 pub mod head;
 pub mod item;
 mod keys;
+pub mod laws;
 pub mod no_memory;
 pub mod read;
 mod read_head;

@@ -1,7 +1,11 @@
-ghost use Rattle.std.specs.Prelude.{◌≡◌, [], length, false, true, OnOk, Err};
+ghost use Rattle.std.specs.Prelude.{ℕ, ◌≤◌, take, IfOk, ◌≡◌, [], length, false, true, OnOk, Err};
 ghost use Rattle.cbor_core.specs.declared.head.Major.TheVariants as major;
 ghost use Rattle.cbor_core.specs.Reading.{Gives, Fails, content_at, row_at, open_at, item_step, pair_step, key_spellings, admitted, demanded, sized_in, open_in, item_in, buried_sized, buried_open, buried_in, item_at, first_item};
+ghost use Rattle.cbor_core.specs.declared.item.Item.{Item};
 ghost use Rattle.cbor_core.specs.Keys.{key_set};
+ghost use Rattle.cbor_core.specs.Deterministic.{det};
+ghost use Rattle.cbor_core.specs.Norm.{norm, IsFit};
+ghost use Rattle.cbor_core.specs.Spelling.{Spells};
 
 use crate::blob::Blob;
 use crate::fault::CborFault;
@@ -19,7 +23,12 @@ use std::collections::BTreeSet;
 /// The item at the front of the bytes, and how many bytes it takes. Bytes may follow. The first fault in reading
 /// order is answered, and never `NotDeterministic`.
 pub fn read_wire(alloc: Global, bytes: &[u8]) -> Result<(Item, usize), CborFault>
-    ensures { Gives (λ x. (x.0, x.1)) result (first_item false bytes.now) }
+    // What is read is spelled so.
+    ensures found { IfOk result (λ x. (x.1 ≤ length bytes.now) × Spells x.0 (take x.1 bytes.now)) }
+    // What is spelled so is read, unless memory runs out.
+    ensures only { (x : Item) (n : ℕ) → n ≤ length bytes.now → Spells x (take n bytes.now) → Gives {Y = Item × ℕ} (λ y. (y.0, y.1)) result (Ok (x, n)) }
+    // Which fault it is.
+    ensures exact { Gives (λ x. (x.0, x.1)) result (first_item false bytes.now) }
 {
     read_first(alloc, false, bytes)
 }
@@ -27,7 +36,12 @@ pub fn read_wire(alloc: Global, bytes: &[u8]) -> Result<(Item, usize), CborFault
 /// The same for the deterministic spelling alone: `NotDeterministic` is answered where the first fault in reading
 /// order is a spelling that is not the deterministic one.
 pub fn read_det(alloc: Global, bytes: &[u8]) -> Result<(Item, usize), CborFault>
-    ensures { Gives (λ x. (x.0, x.1)) result (first_item true bytes.now) }
+    // What is read is the deterministic spelling, of an item whose maps' pairs are in order.
+    ensures found { IfOk result (λ x. (x.1 ≤ length bytes.now) × (take x.1 bytes.now ≡ det x.0) × (norm x.0 ≡ x.0)) }
+    // A deterministic spelling is read, unless memory runs out.
+    ensures only { (x : Item) (n : ℕ) → n ≤ length bytes.now → IsFit x → take n bytes.now ≡ det x → Gives {Y = Item × ℕ} (λ y. (y.0, y.1)) result (Ok (norm x, n)) }
+    // Which fault it is.
+    ensures exact { Gives (λ x. (x.0, x.1)) result (first_item true bytes.now) }
 {
     read_first(alloc, true, bytes)
 }

@@ -2,6 +2,7 @@ ghost use Rattle.std.specs.Prelude.{◌≡◌, ◌++◌, ◌<◌, ◌∷◌, ◌
 ghost use Rattle.std.specs.List.{concat};
 ghost use Rattle.cbor_core.specs.Head.{head};
 ghost use Rattle.cbor_core.specs.Deterministic.{det, det_pairs, in_key_order};
+ghost use Rattle.cbor_core.specs.Norm.{IsFit, IsReadBack};
 
 use crate::blob::Blob;
 use crate::item::Item;
@@ -11,7 +12,9 @@ use std::collections::BTreeMap;
 
 /// The deterministic spelling of an item: shortest arguments, definite lengths, and map keys in bytewise order.
 pub fn write_det(alloc: Global, item: &Item) -> Result<Blob, NoMemory>
-    ensures { IfOk result (λ blob. blob ≡ det item.now) }
+    ensures value { IfOk result (λ blob. blob ≡ det item.now) }
+    // An item that is fit to be written is read back, its maps' pairs in order, whatever follows.
+    ensures back { IsFit item.now → IfOk result (λ blob. IsReadBack item.now blob) }
 {
     let mut out = Vec::new(alloc);
     write_item(alloc, &mut out, item)?;
