@@ -4,3 +4,4 @@ pub mod LineFeeds
 pub mod AnswersMore
 pub mod TookMore
 pub mod EndingMore
+pub mod RvCounts

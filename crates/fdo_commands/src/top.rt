@@ -29,6 +29,10 @@ pub fn fdo<I: Source, O: Sink, N: Random>(
     ensures ran { (command : Command) → Names words.now command → Ran command
         (outside (I.Channel.left input.old) (I.Channel.read_faults input.old) (O.Channel.written output.old) (O.Channel.write_faults output.old) (N.draws random.old) (N.faults random.old))
         (outside (I.Channel.left input.new) (I.Channel.read_faults input.new) (O.Channel.written output.new) (O.Channel.write_faults output.new) (N.draws random.new) (N.faults random.new)) result }
+    ensures done { result ≡ status.Done → (N.faults random.new ≡ N.faults random.old) × (I.Channel.read_faults input.new ≡ I.Channel.read_faults input.old) × (O.Channel.write_faults output.new ≡ O.Channel.write_faults output.old) }
+    ensures read { result ≡ status.Read → Rises (I.Channel.read_faults input.old) (I.Channel.read_faults input.new) }
+    ensures write { result ≡ status.Write → Rises (O.Channel.write_faults output.old) (O.Channel.write_faults output.new) }
+    ensures random_failed { result ≡ status.Random → Rises (N.faults random.old) (N.faults random.new) }
     ensures input_written { I.Channel.written input.new ≡ I.Channel.written input.old }
     ensures input_write_faults { I.Channel.write_faults input.new ≡ I.Channel.write_faults input.old }
     ensures output_left { O.Channel.left output.new ≡ O.Channel.left output.old }
@@ -58,6 +62,10 @@ fn step_rendezvous<I: Source, O: Sink, N: Random>(
     ensures ends { Ends RvStep RvGivesUp (record { random = drawn (N.draws random.old) (N.faults random.old) }) (record { random = drawn (N.draws random.new) (N.faults random.new) })
         (streams (I.Channel.left input.old) (I.Channel.read_faults input.old) (O.Channel.written output.old) (O.Channel.write_faults output.old))
         (streams (I.Channel.left input.new) (I.Channel.read_faults input.new) (O.Channel.written output.new) (O.Channel.write_faults output.new)) result }
+    ensures done { result ≡ status.Done → (N.faults random.new ≡ N.faults random.old) × (I.Channel.read_faults input.new ≡ I.Channel.read_faults input.old) × (O.Channel.write_faults output.new ≡ O.Channel.write_faults output.old) }
+    ensures read { result ≡ status.Read → Rises (I.Channel.read_faults input.old) (I.Channel.read_faults input.new) }
+    ensures write { result ≡ status.Write → Rises (O.Channel.write_faults output.old) (O.Channel.write_faults output.new) }
+    ensures random_failed { result ≡ status.Random → Rises (N.faults random.old) (N.faults random.new) }
     ensures input_written { I.Channel.written input.new ≡ I.Channel.written input.old }
     ensures input_write_faults { I.Channel.write_faults input.new ≡ I.Channel.write_faults input.old }
     ensures output_left { O.Channel.left output.new ≡ O.Channel.left output.old }
@@ -70,10 +78,33 @@ fn step_rendezvous<I: Source, O: Sink, N: Random>(
         server: &mut server,
         random,
     };
-    let ending = step(alloc, &mut handler, input, output);
+    let ending = step_handler(alloc, &mut handler, input, output);
     let RvHandler {
         server: _server,
         random: _random,
     } = handler;
     ending
+}
+
+/// The same with the server and its objects in one.
+fn step_handler<I: Source, O: Sink, N: Random>(
+    alloc: Global,
+    handler: &mut RvHandler<'_, N>,
+    input: &mut I,
+    output: &mut O,
+) -> Status
+    ensures ends { Ends RvStep RvGivesUp (record { random = drawn (N.draws handler.old.random.now) (N.faults handler.old.random.now) }) (record { random = drawn (N.draws handler.new.random.now) (N.faults handler.new.random.now) })
+        (streams (I.Channel.left input.old) (I.Channel.read_faults input.old) (O.Channel.written output.old) (O.Channel.write_faults output.old))
+        (streams (I.Channel.left input.new) (I.Channel.read_faults input.new) (O.Channel.written output.new) (O.Channel.write_faults output.new)) result }
+    ensures same_random { handler.new.random.ghost_name ≡ handler.old.random.ghost_name }
+    ensures done { result ≡ status.Done → (N.faults handler.new.random.now ≡ N.faults handler.old.random.now) × (I.Channel.read_faults input.new ≡ I.Channel.read_faults input.old) × (O.Channel.write_faults output.new ≡ O.Channel.write_faults output.old) }
+    ensures read { result ≡ status.Read → Rises (I.Channel.read_faults input.old) (I.Channel.read_faults input.new) }
+    ensures write { result ≡ status.Write → Rises (O.Channel.write_faults output.old) (O.Channel.write_faults output.new) }
+    ensures random_failed { result ≡ status.Random → Rises (N.faults handler.old.random.now) (N.faults handler.new.random.now) }
+    ensures input_written { I.Channel.written input.new ≡ I.Channel.written input.old }
+    ensures input_write_faults { I.Channel.write_faults input.new ≡ I.Channel.write_faults input.old }
+    ensures output_left { O.Channel.left output.new ≡ O.Channel.left output.old }
+    ensures output_read_faults { O.Channel.read_faults output.new ≡ O.Channel.read_faults output.old }
+{
+    step(alloc, handler, input, output)
 }

@@ -1,5 +1,5 @@
 -- Runs, longer by one message.
-use Rattle.std.proofs.Common.{◌≡◌, List, [], ◌∷◌, ◌++◌, refl, subst, sym}
+use Rattle.std.proofs.Common.{List, [], ◌∷◌, ◌++◌, refl, subst}
 use Rattle.fdo_msgs.specs.Run.{Runs}
 use Rattle.fdo_msgs.specs.declared.answer.Answer.{Answer}
 use Rattle.fdo_msgs.specs.declared.packet.Packet.{Packet}

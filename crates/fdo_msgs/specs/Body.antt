@@ -1,8 +1,9 @@
 -- The body of each message type as one CBOR item (FIDO Device Onboard 1.1, sections 5.2 to 5.5).
-use Rattle.std.specs.Prelude.{ℕ, List, [], ◌∷◌}
+use Rattle.std.specs.Prelude.{◌≡◌, ℕ, List, [], ◌∷◌}
 use Rattle.cbor_core.specs.declared.item.Item.{Item}
 use Rattle.cbor_core.specs.declared.item.Item.TheVariants as item
 use Rattle.cbor_core.specs.Deterministic.{det}
+use Rattle.cbor_core.specs.Spelling.{Spells}
 use Rattle.fdo_msgs.specs.declared.msg.Msg.{Msg}
 use Rattle.fdo_msgs.specs.declared.msg.Msg.TheVariants.{Hello, HelloAck, Error}
 
@@ -25,3 +26,7 @@ item_of (Error code kind text stamp id) = item.Array (item.Uint code ∷ item.Ui
 -- the body as it is written
 abbrev pub body_of : Msg → List ℕ
 body_of msg = det (item_of msg)
+
+-- the bytes are a body of the type that says the message: they spell its item, to their end
+abbrev pub IsBody : ℕ → List ℕ → Msg → Type 0
+IsBody kind bytes msg = (kind ≡ kind_of msg) × Spells (item_of msg) bytes

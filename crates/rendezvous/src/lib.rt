@@ -2,7 +2,7 @@
 //! finds its owner (TO1).
 #![tactic(auto)]
 
-mod received;
+pub mod received;
 pub mod rv_handler;
 pub mod server;
 

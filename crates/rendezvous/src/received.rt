@@ -4,8 +4,8 @@ use cbor_core::NoMemory;
 use fdo_msgs::{BodyFault, Cause, Msg, Packet, read_body};
 use std::alloc::Global;
 
-/// What a message is to the server, before it calls on anything.
-pub(crate) enum Received {
+/// What a message is to the server, before it calls on anything: the row of its answer.
+pub enum Received {
     /// An error of the other end.
     PeerError,
     /// Refused for this cause.
