@@ -1,1 +1,2 @@
 pub mod OwnWord
+pub mod OwnRun

@@ -1,6 +1,7 @@
 //! The program: it makes the real objects of the outside, hands them to the top call, and ends with its status.
 #![tactic(auto)]
 
+mod answers;
 mod faults;
 mod help;
 mod own_word;
@@ -11,8 +12,8 @@ mod system_random;
 mod tests;
 mod words;
 
-use fdo_commands::{Status, fdo};
-use own_word::OwnWord;
+use answers::answer;
+use fdo_commands::Status;
 use std::process::ExitCode;
 use std_sink::StdSink;
 use std_source::StdSource;
@@ -28,22 +29,14 @@ fn run(rt: &HostRuntime) -> Status {
     let Ok(words) = read_words(rt) else {
         return Status::NoMemory;
     };
+    let mut input = StdSource::new(rt.stdin());
     let mut output = StdSink::new(rt.stdout());
-    match OwnWord::of(words.as_slice()) {
-        Some(word) => match word.answer(&mut output) {
-            Ok(()) => Status::Done,
-            Err(_) => Status::Write,
-        },
-        None => {
-            let mut input = StdSource::new(rt.stdin());
-            let mut random = SystemRandom::new(rt);
-            fdo(
-                rt.alloc(),
-                words.as_slice(),
-                &mut input,
-                &mut output,
-                &mut random,
-            )
-        }
-    }
+    let mut random = SystemRandom::new(rt);
+    answer(
+        rt.alloc(),
+        words.as_slice(),
+        &mut input,
+        &mut output,
+        &mut random,
+    )
 }
