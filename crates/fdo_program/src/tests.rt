@@ -1,10 +1,12 @@
 //! What no clause says of the objects over std: which bytes they pass on, and what a failed call answers.
+use crate::answers::answer;
 use crate::own_word::OwnWord;
 use crate::std_sink::StdSink;
 use crate::std_source::StdSource;
 use crate::system_random::SystemRandom;
 use cbor_core::Text;
-use fdo_ports::{Failed, Random, Sink, Source, write_all};
+use fdo_commands::Status;
+use fdo_ports::{Failed, ListRandom, MemorySink, PlainSource, Random, Sink, Source, write_all};
 use std::io;
 use std::io::{Read, Write};
 use std::random::RandomSource;
@@ -96,4 +98,31 @@ fn own_words_stand_alone(rt: HostRuntime) {
         .push(Text::from_str(rt.alloc(), "x").expect(&rt, "memory"))
         .expect(&rt, "memory");
     assert_eq!(rt; OwnWord::of(words.as_slice()), None);
+}
+
+#[test]
+fn version_is_written(rt: HostRuntime) {
+    for (fail, status, written) in [
+        (0, Status::Done, b"fdo 0.1.0\n".as_slice()),
+        (1, Status::Write, b"".as_slice()),
+    ] {
+        let mut words = Vec::new(rt.alloc());
+        words
+            .push(Text::from_str(rt.alloc(), "--version").expect(&rt, "memory"))
+            .expect(&rt, "memory");
+        let mut fails = Vec::new(rt.alloc());
+        fails.push(fail).expect(&rt, "memory");
+        let mut input = PlainSource::new(Vec::new(rt.alloc()));
+        let mut output = MemorySink::new(Vec::new(rt.alloc()), fails);
+        let mut random = ListRandom::new(Vec::new(rt.alloc()), Vec::new(rt.alloc()));
+        let ending = answer(
+            rt.alloc(),
+            words.as_slice(),
+            &mut input,
+            &mut output,
+            &mut random,
+        );
+        assert_eq!(rt; ending, status);
+        assert_eq!(rt; output.written(), written);
+    }
 }
