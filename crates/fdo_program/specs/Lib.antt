@@ -1,0 +1,2 @@
+pub mod OwnWord
+pub mod OwnRun

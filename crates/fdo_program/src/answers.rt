@@ -1,0 +1,29 @@
+ghost use Rattle.fdo_commands.specs.Ran.{outside};
+ghost use Rattle.fdo_program.specs.OwnRun.{RanProgram};
+
+use crate::own_word::OwnWord;
+use cbor_core::Text;
+use fdo_commands::{Status, fdo};
+use fdo_ports::{Random, Sink, Source};
+use std::alloc::Global;
+
+/// Answers the program's own words, and hands all others to the top call.
+pub fn answer<I: Source, O: Sink, N: Random>(
+    alloc: Global,
+    words: &[Text],
+    input: &mut I,
+    output: &mut O,
+    random: &mut N,
+) -> Status
+    ensures { RanProgram words.now
+        (outside (I.Channel.left input.old) (I.Channel.read_faults input.old) (O.Channel.written output.old) (O.Channel.write_faults output.old) (N.draws random.old) (N.faults random.old))
+        (outside (I.Channel.left input.new) (I.Channel.read_faults input.new) (O.Channel.written output.new) (O.Channel.write_faults output.new) (N.draws random.new) (N.faults random.new)) result }
+{
+    match OwnWord::of(words) {
+        Some(word) => match word.answer(output) {
+            Ok(()) => Status::Done,
+            Err(_) => Status::Write,
+        },
+        None => fdo(alloc, words, input, output, random),
+    }
+}

@@ -1,0 +1,27 @@
+ghost use Rattle.std.specs.Prelude.{◌≡◌};
+ghost use Rattle.fdo_ports.specs.Count.{Rises};
+
+use fdo_ports::Failed;
+
+/// How often the calls on a real object failed.
+#[derive(Debug, Drop)]
+pub struct Faults {
+    count: u64,
+}
+
+impl Faults {
+    /// None failed yet.
+    pub fn new() -> Faults
+        ensures { result.count ≡ 0 }
+    {
+        Faults { count: 0 }
+    }
+
+    /// One more call failed. The count stands still at 2^64 - 1.
+    pub fn raise(&mut self) -> Failed
+        ensures { Rises self.old.count self.new.count }
+    {
+        self.count = self.count.saturating_add(1);
+        Failed
+    }
+}

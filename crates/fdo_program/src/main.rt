@@ -1,0 +1,42 @@
+//! The program: it makes the real objects of the outside, hands them to the top call, and ends with its status.
+#![tactic(auto)]
+
+mod answers;
+mod faults;
+mod help;
+mod own_word;
+mod std_sink;
+mod std_source;
+mod system_random;
+#[cfg(test)]
+mod tests;
+mod words;
+
+use answers::answer;
+use fdo_commands::Status;
+use std::process::ExitCode;
+use std_sink::StdSink;
+use std_source::StdSource;
+use system_random::SystemRandom;
+use words::read_words;
+
+fn main(rt: HostRuntime) -> ExitCode {
+    ExitCode::from(run(&rt) as u8)
+}
+
+/// Runs the words of the command line over the real objects.
+fn run(rt: &HostRuntime) -> Status {
+    let Ok(words) = read_words(rt) else {
+        return Status::NoMemory;
+    };
+    let mut input = StdSource::new(rt.stdin());
+    let mut output = StdSink::new(rt.stdout());
+    let mut random = SystemRandom::new(rt);
+    answer(
+        rt.alloc(),
+        words.as_slice(),
+        &mut input,
+        &mut output,
+        &mut random,
+    )
+}

@@ -1,0 +1,128 @@
+//! What no clause says of the objects over std: which bytes they pass on, and what a failed call answers.
+use crate::answers::answer;
+use crate::own_word::OwnWord;
+use crate::std_sink::StdSink;
+use crate::std_source::StdSource;
+use crate::system_random::SystemRandom;
+use cbor_core::Text;
+use fdo_commands::Status;
+use fdo_ports::{Failed, ListRandom, MemorySink, PlainSource, Random, Sink, Source, write_all};
+use std::io;
+use std::io::{Read, Write};
+use std::random::RandomSource;
+
+/// An object on which each call fails.
+#[derive(Debug, Drop)]
+struct Broken;
+
+impl Read for Broken {
+    fn read(&mut self, _into: &mut [u8]) -> io::Result<usize> {
+        Err(io::Error::from(io::ErrorKind::Other))
+    }
+}
+
+impl Write for Broken {
+    fn write(&mut self, _piece: &[u8]) -> io::Result<usize> {
+        Err(io::Error::from(io::ErrorKind::Other))
+    }
+
+    fn flush(&mut self) -> io::Result<()> {
+        Ok(())
+    }
+}
+
+impl RandomSource for Broken {
+    fn fill_bytes(&self, _into: &mut [u8]) -> io::Result<()> {
+        Err(io::Error::from(io::ErrorKind::Other))
+    }
+}
+
+/// A writer that takes nothing more.
+#[derive(Debug, Drop)]
+struct Full;
+
+impl Write for Full {
+    fn write(&mut self, _piece: &[u8]) -> io::Result<usize> {
+        Ok(0)
+    }
+
+    fn flush(&mut self) -> io::Result<()> {
+        Ok(())
+    }
+}
+
+#[test]
+fn reads_pass_bytes_on(rt: HostRuntime) {
+    let mut source = StdSource::new(b"20 - 80\n".as_slice());
+    let mut into = [0; 6];
+    assert_eq!(rt; source.read(&mut into), Ok(6));
+    assert_eq!(rt; &into, b"20 - 8");
+    assert_eq!(rt; source.read(&mut into), Ok(2));
+    assert_eq!(rt; &into, b"0\n - 8");
+    assert_eq!(rt; source.read(&mut into), Ok(0));
+    let mut broken = StdSource::new(Broken);
+    assert_eq!(rt; broken.read(&mut into), Err(Failed));
+}
+
+#[test]
+fn writes_pass_bytes_on(rt: HostRuntime) {
+    let mut written = Vec::new(rt.alloc());
+    let mut sink = StdSink::new(&mut written);
+    assert_eq!(rt; write_all(&mut sink, b"ended\n"), Ok(()));
+    assert_eq!(rt; written.as_slice(), b"ended\n".as_slice());
+    let mut broken = StdSink::new(Broken);
+    assert_eq!(rt; broken.write_some(b"x"), Err(Failed));
+    let mut full = StdSink::new(Full);
+    assert_eq!(rt; full.write_some(b"x"), Err(Failed));
+}
+
+#[test]
+fn draws_differ(rt: HostRuntime) {
+    let mut random = SystemRandom::new(&rt);
+    let first = random.draw16();
+    let second = random.draw16();
+    assert!(rt; first.is_ok() && second.is_ok() && first != second);
+    let mut broken = SystemRandom::new(Broken);
+    assert_eq!(rt; broken.draw16(), Err(Failed));
+}
+
+#[test]
+fn own_words_stand_alone(rt: HostRuntime) {
+    let mut words = Vec::new(rt.alloc());
+    assert_eq!(rt; OwnWord::of(words.as_slice()), None);
+    words
+        .push(Text::from_str(rt.alloc(), "--help").expect(&rt, "memory"))
+        .expect(&rt, "memory");
+    assert_eq!(rt; OwnWord::of(words.as_slice()), Some(OwnWord::Help));
+    words
+        .push(Text::from_str(rt.alloc(), "x").expect(&rt, "memory"))
+        .expect(&rt, "memory");
+    assert_eq!(rt; OwnWord::of(words.as_slice()), None);
+}
+
+#[test]
+fn version_is_written(rt: HostRuntime) {
+    for (fail, status, written) in [
+        (0, Status::Done, b"fdo 0.1.0\n".as_slice()),
+        (1, Status::Write, b"".as_slice()),
+    ] {
+        let mut words = Vec::new(rt.alloc());
+        words
+            .push(Text::from_str(rt.alloc(), "--version").expect(&rt, "memory"))
+            .expect(&rt, "memory");
+        let mut fails = Vec::new(rt.alloc());
+        fails.push(fail).expect(&rt, "memory");
+        let mut input = PlainSource::new(Vec::new(rt.alloc()));
+        let mut output = MemorySink::new(Vec::new(rt.alloc()), fails);
+        let mut random = ListRandom::new(Vec::new(rt.alloc()), Vec::new(rt.alloc()));
+        let ending = answer(
+            rt.alloc(),
+            words.as_slice(),
+            &mut input,
+            &mut output,
+            &mut random,
+        );
+        assert_eq!(rt; ending, status);
+        assert_eq!(rt; output.written(), written);
+    }
+}
