@@ -1,0 +1,170 @@
+//! `step rendezvous` over objects in memory.
+use cbor_core::Text;
+use fdo_commands::{Status, fdo};
+use fdo_ports::{ListRandom, MemorySink, MemorySource, PlainSink, PlainSource};
+use std::alloc::{AllocError, Global};
+
+/// The draws 00 01 .. 0f and 10 11 .. 1f.
+const NONCE: [u8; 16] = [0, 1, 2, 3, 4, 5, 6, 7, 8, 9, 10, 11, 12, 13, 14, 15];
+
+const TOKEN: [u8; 16] = [
+    16, 17, 18, 19, 20, 21, 22, 23, 24, 25, 26, 27, 28, 29, 30, 31,
+];
+
+/// One run: the words, the input, how many of the two draws the source has, the number of the read, the write and
+/// the draw that fails, and what has to be written and answered.
+type Case = (
+    &'static str,
+    &'static [u8],
+    usize,
+    [u64; 3],
+    &'static [u8],
+    u8,
+);
+
+const STEP: &str = "step rendezvous";
+
+const ACK: &[u8] = b"21 EBESExQVFhcYGRobHB0eHw 8150000102030405060708090a0b0c0d0e0f\n";
+
+const BODY: &[u8] = b"255 - 851864146c6d65737361676520626f6479f600\n";
+
+const TWICE: &[u8] =
+    b"255 - 851864146c6d65737361676520626f6479f600\n255 - 851864146c6d65737361676520626f6479f600\n";
+
+const TURN: &[u8] = b"255 - 851865156f696e76616c6964206d657373616765f600\n";
+
+const TURN_OF_0: &[u8] = b"255 - 851865006f696e76616c6964206d657373616765f600\n";
+
+const NO_DRAW: &[u8] = b"255 - 851901f41468696e7465726e616cf600\nfault random\n";
+
+const NO_FIRST_DRAW: &[u8] =
+    b"255 - 851901f41468696e7465726e616cf600\n21 EBESExQVFhcYGRobHB0eHw 8150000102030405060708090a0b0c0d0e0f\nfault random\n";
+
+const WORDS: &[u8] = b"fault words\n";
+
+const WRONG: &[u8] = b"fault input 0\n";
+
+const WRONG_AT_10: &[u8] = b"fault input 10\n";
+
+static CASES: [Case; 29] = [
+    (STEP, b"20 - 80\n", 2, [0, 0, 0], ACK, 0),
+    (STEP, b"20 - 9fff\n", 2, [0, 0, 0], ACK, 0),
+    (STEP, b"20 token 80\n", 2, [0, 0, 0], ACK, 0),
+    (STEP, b"20 - 8100\n", 2, [0, 0, 0], BODY, 0),
+    (STEP, b"20 - 8080\n", 2, [0, 0, 0], BODY, 0),
+    (STEP, b"20 - 8100\n20 - 8080\n", 2, [0, 0, 0], TWICE, 0),
+    (STEP, b"21 - 80\n", 2, [0, 0, 0], TURN, 0),
+    (STEP, b"0 a 00\n", 2, [0, 0, 0], TURN_OF_0, 0),
+    (STEP, b"255 - 80\n", 2, [0, 0, 0], b"ended\n", 0),
+    (STEP, b"", 2, [0, 0, 0], b"", 0),
+    (STEP, b"20 - 80", 2, [0, 0, 0], WRONG, 3),
+    (STEP, b"20 - 8100\n20 - 80", 2, [0, 0, 0], WRONG_AT_10, 3),
+    (STEP, b"20 - 8100\n\n", 2, [0, 0, 0], WRONG_AT_10, 3),
+    (STEP, b"020 - 80\n", 2, [0, 0, 0], WRONG, 3),
+    (STEP, b"256 - 80\n", 2, [0, 0, 0], WRONG, 3),
+    (STEP, b"20 - 8A\n", 2, [0, 0, 0], WRONG, 3),
+    (STEP, b"20 - \n", 2, [0, 0, 0], WRONG, 3),
+    (STEP, b"20 - 8\n", 2, [0, 0, 0], WRONG, 3),
+    (STEP, b"20  80\n", 2, [0, 0, 0], WRONG, 3),
+    (STEP, b"20 - 80 \n", 2, [0, 0, 0], WRONG, 3),
+    (STEP, b"20 - 80\r\n", 2, [0, 0, 0], WRONG, 3),
+    ("frob", b"20 - 80\n", 2, [0, 0, 0], WORDS, 2),
+    ("step rendezvous x", b"", 2, [0, 0, 0], WORDS, 2),
+    (STEP, b"20 - 80\n", 0, [0, 0, 0], NO_DRAW, 11),
+    (STEP, b"20 - 80\n", 1, [0, 0, 0], NO_DRAW, 11),
+    (STEP, b"20 - 80\n20 - 80\n", 2, [0, 0, 1], NO_FIRST_DRAW, 11),
+    (STEP, b"20 - 80\n", 2, [1, 0, 0], b"fault read\n", 4),
+    (STEP, b"20 - 80\n", 2, [0, 1, 0], b"", 5),
+    (STEP, b"20 - 8100\n20 - 8100\n", 2, [0, 2, 0], BODY, 5),
+];
+
+fn words(alloc: Global, text: &str) -> Result<Vec<Text>, AllocError> {
+    let mut words = Vec::new(alloc);
+    for word in text.split(' ') {
+        words.push(Text::new(String::from_str(alloc, word)?))?;
+    }
+    Ok(words)
+}
+
+fn numbers(alloc: Global, number: u64) -> Result<Vec<u64>, AllocError> {
+    let mut numbers = Vec::new(alloc);
+    if number > 0 {
+        numbers.push(number)?;
+    }
+    Ok(numbers)
+}
+
+fn draws(alloc: Global, count: usize) -> Result<Vec<[u8; 16]>, AllocError> {
+    let mut draws = Vec::new(alloc);
+    if count > 0 {
+        draws.push(NONCE)?;
+    }
+    if count > 1 {
+        draws.push(TOKEN)?;
+    }
+    Ok(draws)
+}
+
+/// The input as one piece, or as one piece for each byte.
+fn pieces(alloc: Global, input: &[u8], cut: bool) -> Result<Vec<Vec<u8>>, AllocError> {
+    let mut pieces = Vec::new(alloc);
+    if !cut {
+        pieces.push(Vec::from_slice(alloc, input)?)?;
+        return Ok(pieces);
+    }
+    for byte in input {
+        let mut piece = Vec::new(alloc);
+        piece.push(*byte)?;
+        pieces.push(piece)?;
+        pieces.push(Vec::new(alloc))?;
+    }
+    Ok(pieces)
+}
+
+/// What a run writes, and how it ends.
+fn run(alloc: Global, case: &Case, cut: bool) -> Result<(Vec<u8>, u8), AllocError> {
+    let [read, write, draw] = case.3;
+    let words = words(alloc, case.0)?;
+    let mut input = MemorySource::new(pieces(alloc, case.1, cut)?, numbers(alloc, read)?);
+    let mut output = MemorySink::new(Vec::new(alloc), numbers(alloc, write)?);
+    let mut random = ListRandom::new(draws(alloc, case.2)?, numbers(alloc, draw)?);
+    let status = fdo(
+        alloc,
+        words.as_slice(),
+        &mut input,
+        &mut output,
+        &mut random,
+    );
+    Ok((Vec::from_slice(alloc, output.written())?, status as u8))
+}
+
+#[test]
+fn answers_are_those_of_the_standard(rt: HostRuntime) -> Result<(), AllocError> {
+    for case in &CASES {
+        for cut in [false, true] {
+            let (output, status) = run(rt.alloc(), case, cut)?;
+            assert_eq!(rt; output.as_slice(), case.4);
+            assert_eq!(rt; status, case.5);
+        }
+    }
+    Ok(())
+}
+
+#[test]
+fn a_longer_input_is_refused(rt: HostRuntime) -> Result<(), AllocError> {
+    let alloc = rt.alloc();
+    let words = words(alloc, "step rendezvous")?;
+    for (length, status) in [(16_777_216, Status::Input), (16_777_217, Status::Limit)] {
+        let mut input = PlainSource::new(vec![in alloc; 0; length]?);
+        let mut random = ListRandom::new(Vec::new(alloc), Vec::new(alloc));
+        let ended = fdo(
+            alloc,
+            words.as_slice(),
+            &mut input,
+            &mut PlainSink::new(),
+            &mut random,
+        );
+        assert_eq!(rt; ended, status);
+    }
+    Ok(())
+}
