@@ -6,23 +6,6 @@ use Rattle.std.specs.declared.alloc.Global.{Global}
 use Rattle.std.specs.declared.vec.Vec.{Vec}
 use Rattle.fdo_ports.specs.MemoryObjects.{in_front, filled, filled_behind, TakesFront}
 
--- nothing was read of the first piece
-pub none_read : (pieces : List (Vec ℕ Global)) → filled_behind pieces 0 ≡ filled pieces
-none_read [] = refl
-none_read (piece ∷ pieces) = refl
-
--- a piece of which nothing is left is passed over
-pub filled_next : (pieces : List (Vec ℕ Global)) (piece : Vec ℕ Global) (i at : ℕ) → i < length pieces → piece ≡ get_or pieces i piece → length piece.items ≤ at → filled_behind (drop (i + 1) pieces) 0 ≡ filled_behind (drop i pieces) at
-filled_next pieces piece i at within is_piece used =
-    let apart : drop i pieces ≡ piece ∷ drop (suc i) pieces = drop-cons pieces i piece within ∙ ap (λ p. p ∷ drop (suc i) pieces) (sym is_piece) in
-    ap (λ k. filled_behind (drop k pieces) 0) (add-one i) ∙ none_read (drop (suc i) pieces)
-    ∙ ap (λ xs. in_front xs (filled (drop (suc i) pieces))) (sym (drop_all at piece.items used))
-    ∙ ap (λ ps. filled_behind ps at) (sym apart)
-
--- past the last piece there is none
-pub filled_end : (pieces : List (Vec ℕ Global)) (i at : ℕ) → length pieces ≤ i → filled_behind (drop i pieces) at ≡ []
-filled_end pieces i at past = ap (λ ps. filled_behind ps at) (drop_all i pieces past)
-
 -- from the first piece
 takes_front : (piece : List ℕ) (pieces : List (List ℕ)) (room n : ℕ) → 0 < length piece → n ≡ min room (length piece) → TakesFront (in_front piece pieces) room n (in_front (drop n piece) pieces)
 takes_front [] pieces room n some count = let no : ⊥ = omega (arith, some) in absurd no
