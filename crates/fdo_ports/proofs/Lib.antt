@@ -1,3 +1,4 @@
 pub mod Behind
 pub mod DrawsMore
 pub mod Grown
+pub mod Pieces

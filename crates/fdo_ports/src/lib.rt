@@ -1,7 +1,7 @@
 //! The outside as the program sees it: sources, sinks and random draws, each with a count of its faults.
 #![tactic(auto)]
 
-pub mod calls;
+mod calls;
 pub mod channel;
 pub mod failed;
 pub mod list_random;

@@ -1,4 +1,6 @@
-ghost use Rattle.std.specs.Prelude.{◌≡◌, take};
+ghost use Rattle.std.specs.Prelude.{◌≡◌, [], ◌∷◌, ◌||◌, ◌==◌, length, MatchResult, is_err};
+ghost use Rattle.fdo_ports.specs.Count.{Counts};
+ghost use Rattle.fdo_ports.specs.Told.{Answers};
 
 use crate::calls::Calls;
 use crate::failed::Failed;
@@ -13,13 +15,14 @@ pub struct ListRandom {
 }
 
 impl ListRandom {
+    ghost use Rattle.fdo_ports.specs.MemoryObjects.{draws_given, draws_left, random_calls};
+    ghost use Rattle.fdo_ports.specs.Scheduled.{no_calls};
+
     /// The draws in order, and the numbers, from 1, of the calls that fail.
     pub fn new(content: Vec<[u8; 16]>, fail: Vec<u64>) -> ListRandom
-        ensures content { result.content ≡ content }
-        ensures given { result.given ≡ 0 }
-        ensures fail { result.calls.fail ≡ fail }
-        ensures calls { result.calls.calls ≡ 0 }
-        ensures faults { result.calls.faults ≡ 0 }
+        ensures given { draws_given result ≡ [] }
+        ensures left { draws_left result ≡ content.items }
+        ensures calls { random_calls result ≡ no_calls fail }
     {
         ListRandom {
             content,
@@ -30,13 +33,21 @@ impl ListRandom {
 }
 
 impl Random for ListRandom {
-    ghost use Rattle.std.specs.Prelude.{Some, take};
+    ghost use Rattle.std.specs.Prelude.{Some};
+    ghost use Rattle.fdo_ports.specs.MemoryObjects.{draws_given, draws_left, random_calls};
+    ghost use Rattle.fdo_ports.specs.Scheduled.{fails_next, after_call, faults_of};
 
-    ghost draws = { λ r. Some (take r.given r.content.items) };
+    ghost draws = { λ r. Some (draws_given r) };
 
-    ghost faults = { λ r. r.calls.faults };
+    ghost faults = { λ r. faults_of (random_calls r) };
 
-    fn draw16(&mut self) -> Result<[u8; 16], Failed> {
+    fn draw16(&mut self) -> Result<[u8; 16], Failed>
+        ensures drawn { Answers (Some (draws_given self.old)) (Some (draws_given self.new)) result }
+        ensures faults { Counts (faults_of (random_calls self.old)) (faults_of (random_calls self.new)) result }
+        ensures next { MatchResult result (λ draw. draws_left self.old ≡ draw ∷ draws_left self.new) (λ _. draws_left self.new ≡ draws_left self.old) }
+        ensures fails { is_err result ≡ (fails_next (random_calls self.old) || (length (draws_left self.old) == 0)) }
+        ensures calls { random_calls self.new ≡ after_call (random_calls self.old) (is_err result) }
+    {
         self.calls.next()?;
         match self.content.get(self.given) {
             Some(draw) => {

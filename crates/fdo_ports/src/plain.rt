@@ -1,4 +1,5 @@
-ghost use Rattle.std.specs.Prelude.{◌≡◌, take, drop};
+ghost use Rattle.std.specs.Prelude.{◌≡◌, ◌<◌, Ok, length, min, drop, IfOk};
+ghost use Rattle.fdo_ports.specs.Told.{Reads};
 
 use crate::channel::Channel;
 use crate::failed::Failed;
@@ -14,18 +15,21 @@ pub struct PlainSource {
 }
 
 impl PlainSource {
+    ghost use Rattle.fdo_ports.specs.MemoryObjects.{plain_left};
+
+    /// The bytes to be read.
     pub fn new(content: Vec<u8>) -> PlainSource
-        ensures content { result.content ≡ content }
-        ensures given { result.given ≡ 0 }
+        ensures { plain_left result ≡ content.items }
     {
         PlainSource { content, given: 0 }
     }
 }
 
 impl Channel for PlainSource {
-    ghost use Rattle.std.specs.Prelude.{Some, None, drop};
+    ghost use Rattle.std.specs.Prelude.{Some, None};
+    ghost use Rattle.fdo_ports.specs.MemoryObjects.{plain_left};
 
-    ghost left = { λ s. Some (drop s.given s.content.items) };
+    ghost left = { λ s. Some (plain_left s) };
 
     ghost written = { λ _. None };
 
@@ -35,7 +39,15 @@ impl Channel for PlainSource {
 }
 
 impl Source for PlainSource {
-    fn read(&mut self, into: &mut [u8]) -> Result<usize, Failed> {
+    ghost use Rattle.std.specs.Prelude.{Some};
+    ghost use Rattle.fdo_ports.specs.MemoryObjects.{plain_left};
+
+    fn read(&mut self, into: &mut [u8]) -> Result<usize, Failed>
+        requires { 0 < length into.old }
+        ensures bytes { Reads (Some (plain_left self.old)) (Some (plain_left self.new)) into.new result }
+        ensures never_fails { result ≡ Ok (min (length into.old) (length (plain_left self.old))) }
+        ensures others { IfOk result (λ n. drop n into.new ≡ drop n into.old) }
+    {
         if self.given >= self.content.len() {
             return Ok(0);
         }
@@ -50,6 +62,7 @@ impl Source for PlainSource {
 pub struct PlainSink;
 
 impl PlainSink {
+    /// A sink that has taken nothing.
     pub fn new() -> PlainSink {
         PlainSink
     }
@@ -68,7 +81,9 @@ impl Channel for PlainSink {
 }
 
 impl Sink for PlainSink {
-    fn write_some(&mut self, piece: &[u8]) -> Result<usize, Failed> {
+    fn write_some(&mut self, piece: &[u8]) -> Result<usize, Failed>
+        ensures never_fails { result ≡ Ok (length piece.now) }
+    {
         Ok(piece.len())
     }
 }

@@ -1,34 +1,21 @@
 -- How the rendezvous server answers one message (FIDO Device Onboard 1.1, sections 5.3 and 5.4).
-use Rattle.std.specs.Prelude.{◌≡◌, ℕ, List, Result, Ok, Err, Some, None, ◌==◌, if◌then◌else◌}
+use Rattle.std.specs.Prelude.{◌≡◌, ℕ, List, Result, Ok, Err, Some, None}
 use Rattle.fdo_ports.specs.Draw.{Drawn, Draws}
 use Rattle.fdo_ports.specs.declared.failed.Failed.{Failed}
 use Rattle.fdo_msgs.specs.Body.{body_of}
-use Rattle.fdo_msgs.specs.Reading.{body_at}
 use Rattle.fdo_msgs.specs.Refusal.{error_of}
 use Rattle.fdo_msgs.specs.Token.{bearer_token}
 use Rattle.fdo_msgs.specs.declared.answer.Answer.{Answer}
 use Rattle.fdo_msgs.specs.declared.answer.Answer.TheVariants as answers
 use Rattle.fdo_msgs.specs.declared.cause.Cause.{Cause}
-use Rattle.fdo_msgs.specs.declared.cause.Cause.TheVariants.{Turn, Body, Outside}
+use Rattle.fdo_msgs.specs.declared.cause.Cause.TheVariants.{Outside}
 use Rattle.fdo_msgs.specs.declared.cause.Object.TheVariants.{Random}
-use Rattle.fdo_msgs.specs.declared.msg.Msg.{Msg}
-use Rattle.fdo_msgs.specs.declared.msg.Msg.TheVariants.{Hello, HelloAck}
+use Rattle.fdo_msgs.specs.declared.msg.Msg.TheVariants.{HelloAck}
 use Rattle.fdo_msgs.specs.declared.packet.Packet.{Packet}
+use Rattle.rendezvous.specs.Receiving.{received_as}
 use Rattle.rendezvous.specs.RvState.{RvState}
 use Rattle.rendezvous.specs.declared.received.Received.{Received}
 use Rattle.rendezvous.specs.declared.received.Received.TheVariants as received
-
-abbrev pub with_body : Result Msg ℕ → Received
-with_body (Ok Hello) = received.Hello
-with_body (Ok msg) = received.Unfit (Turn 20)
-with_body (Err place) = received.Unfit (Body place)
-
--- first an error of the other end, then a type that the server does not take, then the body
-abbrev pub received_as : Packet → Received
-received_as packet =
-    if packet.kind == 255 then received.PeerError
-    else if packet.kind == 20 then with_body (body_at 20 packet.body)
-    else received.Unfit (Turn packet.kind)
 
 -- a refusal names no session
 abbrev pub refusal : ℕ → Cause → Answer

@@ -1,4 +1,4 @@
-ghost use Rattle.std.specs.Prelude.{◌≡◌, IfOk};
+ghost use Rattle.std.specs.Prelude.{◌≡◌, IfOk, OnErr};
 
 use cbor_core::NoMemory;
 use fdo_msgs::{BodyFault, Cause, Msg, Packet, read_body};
@@ -15,11 +15,13 @@ pub enum Received {
 }
 
 impl Received {
-    ghost use Rattle.rendezvous.specs.RvStep.{received_as};
+    ghost use Rattle.rendezvous.specs.Receiving.{received_as};
 
     /// The first cause among type and body, or the message.
     pub(crate) fn of(alloc: Global, packet: &Packet) -> Result<Received, NoMemory>
-        ensures { IfOk result (λ found. found ≡ received_as packet.now) }
+        ensures received { IfOk result (λ found. found ≡ received_as packet.now) }
+        // memory is wanted for the body of a type that the server takes
+        ensures no_memory { OnErr result (packet.now.kind ≡ 20) }
     {
         match packet.kind {
             255 => Ok(Received::PeerError),

@@ -1,6 +1,6 @@
 ghost use Rattle.std.specs.Prelude.{◌≡◌, IfOk, OnErr};
-ghost use Rattle.fdo_ports.specs.Draw.{DrawsSome, drawn};
-ghost use Rattle.rendezvous.specs.RvState.{RvGivesUp};
+ghost use Rattle.fdo_ports.specs.Draw.{drawn};
+ghost use Rattle.rendezvous.specs.RvState.{RvGivesUp, DrawsHello, DrawsToken};
 ghost use Rattle.rendezvous.specs.RvStep.{RvStep, HelloStep, NonceStep};
 
 use crate::received::Received;
@@ -20,6 +20,7 @@ impl Server {
     }
 
     /// The server's step on one message: TO0.Hello (20), or an error (255).
+    #[tactic(auto, using(crate::proofs::Wanting::at_reading))]
     pub fn on<N: Random>(
         &mut self,
         alloc: Global,
@@ -40,7 +41,7 @@ impl Server {
 /// The answer to TO0.Hello.
 fn hello<N: Random>(alloc: Global, random: &mut N) -> Result<Answer, NoMemory>
     ensures step { IfOk result (λ answer. HelloStep (drawn (N.draws random.old) (N.faults random.old)) answer (drawn (N.draws random.new) (N.faults random.new))) }
-    ensures no_memory { OnErr result (DrawsSome (drawn (N.draws random.old) (N.faults random.old)) (drawn (N.draws random.new) (N.faults random.new))) }
+    ensures no_memory { OnErr result (DrawsHello (drawn (N.draws random.old) (N.faults random.old)) (drawn (N.draws random.new) (N.faults random.new))) }
 {
     let nonce = random.draw16();
     with_nonce(alloc, random, nonce)
@@ -53,7 +54,7 @@ fn with_nonce<N: Random>(
     nonce: Result<[u8; 16], Failed>,
 ) -> Result<Answer, NoMemory>
     ensures step { IfOk result (λ answer. NonceStep nonce (drawn (N.draws random.old) (N.faults random.old)) answer (drawn (N.draws random.new) (N.faults random.new))) }
-    ensures no_memory { OnErr result (DrawsSome (drawn (N.draws random.old) (N.faults random.old)) (drawn (N.draws random.new) (N.faults random.new))) }
+    ensures no_memory { OnErr result (DrawsToken nonce (drawn (N.draws random.old) (N.faults random.old)) (drawn (N.draws random.new) (N.faults random.new))) }
 {
     let Ok(nonce) = nonce else {
         return refuse(alloc, Cause::Outside(Object::Random), 20, None);
