@@ -12,7 +12,8 @@ use Rattle.fdo_msgs.specs.declared.msg.Msg.{Msg}
 use Rattle.fdo_msgs.specs.declared.msg.Msg.TheVariants.{Hello, HelloAck, Error}
 use Rattle.fdo_msgs.specs.declared.packet.Packet.{Packet}
 use Rattle.rendezvous.specs.RvState.{RvGivesUp, RvState}
-use Rattle.rendezvous.specs.RvStep.{NonceStep, ReceivedStep, RvStep, TokenStep, hello_ack, received_as, with_body}
+use Rattle.rendezvous.specs.Receiving.{received_as, with_body}
+use Rattle.rendezvous.specs.RvStep.{NonceStep, ReceivedStep, RvStep, TokenStep, hello_ack}
 use Rattle.rendezvous.specs.declared.received.Received.{Received}
 use Rattle.rendezvous.specs.declared.received.Received.TheVariants as received
 use Rattle.fdo_commands.specs.Answering.{any_fault, names_fault}
