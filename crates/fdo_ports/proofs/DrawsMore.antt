@@ -1,5 +1,5 @@
 -- How draws compose.
-use Rattle.std.proofs.Common.{◌≡◌, ℕ, ◌≤◌, List, [], ◌∷◌, ◌++◌, Result, Ok, Err, Option, refl, sym, ap, ◌∙◌, arith}
+use Rattle.std.proofs.Common.{ℕ, List, [], ◌∷◌, Result, Ok, Err, Option, ap, ◌∙◌, arith}
 use Rattle.fdo_ports.specs.declared.failed.Failed.{Failed}
 use Rattle.fdo_ports.specs.Told.{grown, Answers}
 use Rattle.fdo_ports.specs.Draw.{Drawn, Draws, DrawsSome, drawn}
