@@ -1,26 +1,11 @@
 -- What is left behind the first bytes of a piece.
-use Rattle.std.proofs.Common.{◌≡◌, ℕ, ◌+◌, ◌<◌, ◌≤◌, List, [], ◌∷◌, ◌++◌, min, Some, length, take, drop, get_or, suc, ap, sym, ◌∙◌, append_assoc, add-one, arith}
+use Rattle.std.proofs.Common.{◌≡◌, ℕ, ◌+◌, ◌<◌, ◌≤◌, List, ◌∷◌, ◌++◌, min, Some, length, take, drop, get_or, suc, ap, sym, ◌∙◌, append_assoc, arith}
 use Rattle.std.proofs.Math.Seq.{drop-cons, drop-drop, take-append_seam}
-use Rattle.std.proofs.lemmas.List.{drop_all, take-append-drop, length-take, length-append, length-drop}
+use Rattle.std.proofs.lemmas.List.{take-append-drop, length-take, length-append, length-drop}
 use Rattle.std.specs.declared.alloc.Global.{Global}
 use Rattle.std.specs.declared.vec.Vec.{Vec}
 use Rattle.fdo_ports.specs.MemoryObjects.{behind, joined}
 use Rattle.fdo_ports.specs.Told.{Gives}
-
--- with the first piece used up, the rest is left
-first_used : (piece : Vec ℕ Global) (pieces : List (Vec ℕ Global)) (at : ℕ) → length piece.items ≤ at → behind pieces 0 ≡ behind (piece ∷ pieces) at
-first_used piece [] at used = sym (ap (λ xs. xs ++ []) (drop_all at piece.items used))
-first_used piece (next ∷ pieces) at used = sym (ap (λ xs. xs ++ joined (next ∷ pieces)) (drop_all at piece.items used))
-
--- a piece of which nothing is left is passed over
-pub behind_next : (pieces : List (Vec ℕ Global)) (piece : Vec ℕ Global) (i at : ℕ) → i < length pieces → piece ≡ get_or pieces i piece → length piece.items ≤ at → behind (drop (i + 1) pieces) 0 ≡ behind (drop i pieces) at
-behind_next pieces piece i at within is_piece used =
-    let apart : drop i pieces ≡ piece ∷ drop (suc i) pieces = drop-cons pieces i piece within ∙ ap (λ p. p ∷ drop (suc i) pieces) (sym is_piece) in
-    ap (λ k. behind (drop k pieces) 0) (add-one i) ∙ first_used piece (drop (suc i) pieces) at used ∙ ap (λ ps. behind ps at) (sym apart)
-
--- past the last piece nothing is left
-pub behind_end : (pieces : List (Vec ℕ Global)) (i at : ℕ) → length pieces ≤ i → behind (drop i pieces) at ≡ []
-behind_end pieces i at past = ap (λ ps. behind ps at) (drop_all i pieces past)
 
 -- a part of some bytes, one at least, is read from the front of what is left
 pub gives_part : (left left' into into' part : List ℕ) (n : ℕ) → 0 < n → n ≤ length into → length part ≡ n → into' ≡ part ++ drop n into → left ≡ part ++ left' → Gives (Some left) (Some left') into' n

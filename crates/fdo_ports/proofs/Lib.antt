@@ -1,4 +1,3 @@
 pub mod Behind
-pub mod DrawsMore
 pub mod Grown
 pub mod Pieces

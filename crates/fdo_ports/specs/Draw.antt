@@ -1,5 +1,5 @@
 -- A source of random draws, as contracts see it.
-use Rattle.std.specs.Prelude.{◌≡◌, ℕ, List, [], ◌∷◌, ◌≤◌, Result, Ok, Err, Option}
+use Rattle.std.specs.Prelude.{◌≡◌, ℕ, List, [], ◌∷◌, Result, Ok, Err, Option}
 use Rattle.fdo_ports.specs.Count.{Rises}
 use Rattle.fdo_ports.specs.Told.{grown}
 use Rattle.fdo_ports.specs.declared.failed.Failed.{Failed}
@@ -13,10 +13,6 @@ pub record Drawn : Type 0 where
 abbrev pub Draws : Drawn → Result (List ℕ) Failed → Drawn → Type 0
 Draws before (Ok draw) after = (after.draws ≡ grown before.draws (draw ∷ [])) × (after.faults ≡ before.faults)
 Draws before (Err _) after = (after.draws ≡ before.draws) × Rises before.faults after.faults
-
--- some draws, of which some may have failed
-abbrev pub DrawsSome : Drawn → Drawn → Type 0
-DrawsSome before after = (draws : List (List ℕ)) × (after.draws ≡ grown before.draws draws) × (before.faults ≤ after.faults)
 
 abbrev pub drawn : Option (List (List ℕ)) → ℕ → Drawn
 drawn draws faults = record { draws = draws; faults = faults }
