@@ -2,5 +2,6 @@ pub mod Deterministic
 pub mod Head
 pub mod Keys
 pub mod Norm
+pub mod Passing
 pub mod Reading
 pub mod Spelling

@@ -9,6 +9,7 @@ pub mod item;
 mod keys;
 pub mod laws;
 pub mod no_memory;
+mod pass;
 pub mod read;
 mod read_head;
 mod strings;

@@ -201,7 +201,7 @@ fn demand(strict: bool, deterministic: bool, place: usize) -> Result<(), CborFau
 }
 
 /// The fault of an item below the deepest level.
-fn refuse_buried(place: usize, head: Head, rest: &[u8]) -> CborFault
+pub(crate) fn refuse_buried(place: usize, head: Head, rest: &[u8]) -> CborFault
     ensures { Fails result (buried_in place head rest.now) }
 {
     match head {
@@ -293,7 +293,7 @@ fn next_item<'a>(
 
 #[cycle(reading)]
 #[tactic(auto, using(crate::proofs::Loops::row_more, crate::proofs::Loops::row_fails, crate::proofs::Loops::row_ends))]
-fn read_pairs(
+pub(crate) fn read_pairs(
     alloc: Global,
     strict: bool,
     total: usize,
@@ -317,7 +317,7 @@ fn read_pairs(
 
 #[cycle(reading)]
 #[tactic(auto, using(crate::proofs::Loops::open_more, crate::proofs::Loops::open_fails, crate::proofs::Loops::open_ends, crate::proofs::Loops::open_over))]
-fn read_open_pairs(
+pub(crate) fn read_open_pairs(
     alloc: Global,
     strict: bool,
     total: usize,

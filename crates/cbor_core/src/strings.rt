@@ -56,7 +56,11 @@ fn refuse_foreign(place: usize, n: u64, rest: &[u8]) -> CborFault
     }
 }
 
-fn read_byte_chunk(place: usize, head: Head, rest: &[u8]) -> Result<(&[u8], &[u8]), CborFault>
+pub(crate) fn read_byte_chunk(
+    place: usize,
+    head: Head,
+    rest: &[u8],
+) -> Result<(&[u8], &[u8]), CborFault>
     ensures { Gives (λ x. (x.0.now, x.1.now)) result (chunk_in place major.Bytes head rest.now) }
 {
     match head {
@@ -66,7 +70,11 @@ fn read_byte_chunk(place: usize, head: Head, rest: &[u8]) -> Result<(&[u8], &[u8
     }
 }
 
-fn read_text_chunk(place: usize, head: Head, rest: &[u8]) -> Result<(&str, &[u8]), CborFault>
+pub(crate) fn read_text_chunk(
+    place: usize,
+    head: Head,
+    rest: &[u8],
+) -> Result<(&str, &[u8]), CborFault>
     ensures { Gives (λ x. (x.0.now, x.1.now)) result (chunk_in place major.Text head rest.now) }
 {
     match head {
