@@ -3,6 +3,7 @@
 
 pub mod blob;
 mod copy;
+pub mod cursor;
 pub mod fault;
 pub mod head;
 pub mod item;
@@ -17,6 +18,7 @@ pub mod text;
 pub mod write;
 
 pub use blob::Blob;
+pub use cursor::Cursor;
 pub use fault::CborFault;
 pub use item::{Item, Items, Pairs};
 pub use no_memory::NoMemory;

@@ -1,4 +1,4 @@
-ghost use Rattle.std.specs.Prelude.{◌≡◌, [], length, is_some, false, Err};
+ghost use Rattle.std.specs.Prelude.{◌≡◌, [], length, is_some, false, IfErr, Err};
 ghost use Rattle.cbor_core.specs.declared.head.Major.TheVariants as major;
 ghost use Rattle.cbor_core.specs.Reading.{Gives, Fails, buried_in, row_at, open_at};
 ghost use Rattle.cbor_core.specs.Passing.{pass_content, pass_chunk, pass_step, pass_pair, pass_pairs, pass_open_pairs, pass_sized, pass_open, pass_in, pass_at};
@@ -20,7 +20,8 @@ pub(crate) fn pass_item(
     levels: u8,
     bytes: &[u8],
 ) -> Result<&[u8], CborFault>
-    ensures { Gives (λ rest. (tt, rest.now)) result (pass_at (is_some alloc) total levels bytes.now) }
+    ensures gives { Gives (λ rest. (tt, rest.now)) result (pass_at (is_some alloc) total levels bytes.now) }
+    ensures exact { is_some alloc ≡ false → IfErr result (λ e. (pass_at (is_some alloc) total levels bytes.now) ≡ Err e) }
 {
     let place = total.saturating_sub(bytes.len());
     let (head, rest) = read_head(place, bytes)?;
@@ -40,7 +41,8 @@ fn pass_inside(
     head: Head,
     rest: &[u8],
 ) -> Result<&[u8], CborFault>
-    ensures { Gives (λ rest. (tt, rest.now)) result (pass_in (is_some alloc) total levels (pass_at (is_some alloc) total levels) place head rest.now) }
+    ensures gives { Gives (λ rest. (tt, rest.now)) result (pass_in (is_some alloc) total levels (pass_at (is_some alloc) total levels) place head rest.now) }
+    ensures exact { is_some alloc ≡ false → IfErr result (λ e. (pass_in (is_some alloc) total levels (pass_at (is_some alloc) total levels) place head rest.now) ≡ Err e) }
 {
     match head {
         Head::Sized(major, n, _) => pass_counted(alloc, total, levels, place, major, n, rest),
@@ -62,7 +64,8 @@ fn pass_counted(
     n: u64,
     rest: &[u8],
 ) -> Result<&[u8], CborFault>
-    ensures { Gives (λ rest. (tt, rest.now)) result (pass_sized (is_some alloc) total levels (pass_at (is_some alloc) total levels) place major n rest.now) }
+    ensures gives { Gives (λ rest. (tt, rest.now)) result (pass_sized (is_some alloc) total levels (pass_at (is_some alloc) total levels) place major n rest.now) }
+    ensures exact { is_some alloc ≡ false → IfErr result (λ e. (pass_sized (is_some alloc) total levels (pass_at (is_some alloc) total levels) place major n rest.now) ≡ Err e) }
 {
     match major {
         Major::Unsigned => Ok(rest),
@@ -84,7 +87,8 @@ fn pass_to_break(
     major: Major,
     rest: &[u8],
 ) -> Result<&[u8], CborFault>
-    ensures { Gives (λ rest. (tt, rest.now)) result (pass_open (is_some alloc) total levels (pass_at (is_some alloc) total levels) place major rest.now) }
+    ensures gives { Gives (λ rest. (tt, rest.now)) result (pass_open (is_some alloc) total levels (pass_at (is_some alloc) total levels) place major rest.now) }
+    ensures exact { is_some alloc ≡ false → IfErr result (λ e. (pass_open (is_some alloc) total levels (pass_at (is_some alloc) total levels) place major rest.now) ≡ Err e) }
 {
     match major {
         Major::Bytes => pass_byte_chunks(total, rest),
@@ -96,7 +100,7 @@ fn pass_to_break(
 }
 
 #[cycle(passing)]
-#[tactic(auto, using(crate::proofs::Loops::row_more, crate::proofs::Loops::row_fails, crate::proofs::Loops::row_ends))]
+#[tactic(auto, using(crate::proofs::Loops::row_more, crate::proofs::Loops::row_fails, crate::proofs::Loops::row_ends, crate::proofs::Loops::row_refuses))]
 fn pass_items(
     alloc: Option<Global>,
     total: usize,
@@ -104,7 +108,8 @@ fn pass_items(
     n: u64,
     bytes: &[u8],
 ) -> Result<&[u8], CborFault>
-    ensures { Gives (λ rest. (tt, rest.now)) result (row_at (pass_step (pass_at (is_some alloc) total levels)) n tt bytes.now) }
+    ensures gives { Gives (λ rest. (tt, rest.now)) result (row_at (pass_step (pass_at (is_some alloc) total levels)) n tt bytes.now) }
+    ensures exact { is_some alloc ≡ false → IfErr result (λ e. (row_at (pass_step (pass_at (is_some alloc) total levels)) n tt bytes.now) ≡ Err e) }
 {
     let mut rest = bytes;
     for _turn in 0..n {
@@ -117,14 +122,15 @@ fn pass_items(
 }
 
 #[cycle(passing)]
-#[tactic(auto, using(crate::proofs::Loops::open_more, crate::proofs::Loops::open_fails, crate::proofs::Loops::open_ends, crate::proofs::Loops::open_over))]
+#[tactic(auto, using(crate::proofs::Loops::open_more, crate::proofs::Loops::open_fails, crate::proofs::Loops::open_ends, crate::proofs::Loops::open_over, crate::proofs::Loops::open_refuses))]
 fn pass_open_items(
     alloc: Option<Global>,
     total: usize,
     levels: u8,
     bytes: &[u8],
 ) -> Result<&[u8], CborFault>
-    ensures { Gives (λ rest. (tt, rest.now)) result (open_at (pass_step (pass_at (is_some alloc) total levels)) total (length bytes.now) tt bytes.now) }
+    ensures gives { Gives (λ rest. (tt, rest.now)) result (open_at (pass_step (pass_at (is_some alloc) total levels)) total (length bytes.now) tt bytes.now) }
+    ensures exact { is_some alloc ≡ false → IfErr result (λ e. (open_at (pass_step (pass_at (is_some alloc) total levels)) total (length bytes.now) tt bytes.now) ≡ Err e) }
 {
     let mut rest = bytes;
     for _turn in 0..bytes.len() {
@@ -147,7 +153,8 @@ fn pass_map(
     n: u64,
     bytes: &[u8],
 ) -> Result<&[u8], CborFault>
-    ensures { Gives (λ rest. (tt, rest.now)) result (pass_pairs (is_some alloc) total levels (pass_at (is_some alloc) total levels) n bytes.now) }
+    ensures gives { Gives (λ rest. (tt, rest.now)) result (pass_pairs (is_some alloc) total levels (pass_at (is_some alloc) total levels) n bytes.now) }
+    ensures exact { is_some alloc ≡ false → IfErr result (λ e. (pass_pairs (is_some alloc) total levels (pass_at (is_some alloc) total levels) n bytes.now) ≡ Err e) }
 {
     match alloc {
         Some(memory) => {
@@ -165,7 +172,8 @@ fn pass_open_map(
     levels: u8,
     bytes: &[u8],
 ) -> Result<&[u8], CborFault>
-    ensures { Gives (λ rest. (tt, rest.now)) result (pass_open_pairs (is_some alloc) total levels (pass_at (is_some alloc) total levels) bytes.now) }
+    ensures gives { Gives (λ rest. (tt, rest.now)) result (pass_open_pairs (is_some alloc) total levels (pass_at (is_some alloc) total levels) bytes.now) }
+    ensures exact { is_some alloc ≡ false → IfErr result (λ e. (pass_open_pairs (is_some alloc) total levels (pass_at (is_some alloc) total levels) bytes.now) ≡ Err e) }
 {
     match alloc {
         Some(memory) => {
@@ -177,9 +185,10 @@ fn pass_open_map(
 }
 
 #[cycle(passing)]
-#[tactic(auto, using(crate::proofs::Loops::row_more, crate::proofs::Loops::row_fails, crate::proofs::Loops::row_ends))]
+#[tactic(auto, using(crate::proofs::Loops::row_more, crate::proofs::Loops::row_fails, crate::proofs::Loops::row_ends, crate::proofs::Loops::row_refuses))]
 fn pass_keyed(total: usize, levels: u8, n: u64, bytes: &[u8]) -> Result<&[u8], CborFault>
-    ensures { Gives (λ rest. (tt, rest.now)) result (row_at (pass_pair (pass_at false total levels)) n tt bytes.now) }
+    ensures gives { Gives (λ rest. (tt, rest.now)) result (row_at (pass_pair (pass_at false total levels)) n tt bytes.now) }
+    ensures exact { IfErr result (λ e. (row_at (pass_pair (pass_at false total levels)) n tt bytes.now) ≡ Err e) }
 {
     let mut rest = bytes;
     for _turn in 0..n {
@@ -192,9 +201,10 @@ fn pass_keyed(total: usize, levels: u8, n: u64, bytes: &[u8]) -> Result<&[u8], C
 }
 
 #[cycle(passing)]
-#[tactic(auto, using(crate::proofs::Loops::open_more, crate::proofs::Loops::open_fails, crate::proofs::Loops::open_ends, crate::proofs::Loops::open_over))]
+#[tactic(auto, using(crate::proofs::Loops::open_more, crate::proofs::Loops::open_fails, crate::proofs::Loops::open_ends, crate::proofs::Loops::open_over, crate::proofs::Loops::open_refuses))]
 fn pass_open_keyed(total: usize, levels: u8, bytes: &[u8]) -> Result<&[u8], CborFault>
-    ensures { Gives (λ rest. (tt, rest.now)) result (open_at (pass_pair (pass_at false total levels)) total (length bytes.now) tt bytes.now) }
+    ensures gives { Gives (λ rest. (tt, rest.now)) result (open_at (pass_pair (pass_at false total levels)) total (length bytes.now) tt bytes.now) }
+    ensures exact { IfErr result (λ e. (open_at (pass_pair (pass_at false total levels)) total (length bytes.now) tt bytes.now) ≡ Err e) }
 {
     let mut rest = bytes;
     for _turn in 0..bytes.len() {
@@ -212,14 +222,16 @@ fn pass_open_keyed(total: usize, levels: u8, bytes: &[u8]) -> Result<&[u8], Cbor
 /// A key and its value.
 #[cycle(passing)]
 fn pass_two(total: usize, levels: u8, bytes: &[u8]) -> Result<&[u8], CborFault>
-    ensures { Gives (λ rest. (tt, rest.now)) result (pass_pair (pass_at false total levels) tt bytes.now) }
+    ensures gives { Gives (λ rest. (tt, rest.now)) result (pass_pair (pass_at false total levels) tt bytes.now) }
+    ensures exact { IfErr result (λ e. (pass_pair (pass_at false total levels) tt bytes.now) ≡ Err e) }
 {
     let value = pass_item(None, total, levels, bytes)?;
     pass_item(None, total, levels, value)
 }
 
 fn pass_bytes(alloc: Option<Global>, place: usize, n: u64, rest: &[u8]) -> Result<&[u8], CborFault>
-    ensures { Gives (λ rest. (tt, rest.now)) result (pass_content (is_some alloc) place major.Bytes n rest.now) }
+    ensures gives { Gives (λ rest. (tt, rest.now)) result (pass_content (is_some alloc) place major.Bytes n rest.now) }
+    ensures exact { IfErr result (λ e. (pass_content (is_some alloc) place major.Bytes n rest.now) ≡ Err e) }
 {
     match alloc {
         Some(_) => {
@@ -231,7 +243,8 @@ fn pass_bytes(alloc: Option<Global>, place: usize, n: u64, rest: &[u8]) -> Resul
 }
 
 fn pass_text(alloc: Option<Global>, place: usize, n: u64, rest: &[u8]) -> Result<&[u8], CborFault>
-    ensures { Gives (λ rest. (tt, rest.now)) result (pass_content (is_some alloc) place major.Text n rest.now) }
+    ensures gives { Gives (λ rest. (tt, rest.now)) result (pass_content (is_some alloc) place major.Text n rest.now) }
+    ensures exact { IfErr result (λ e. (pass_content (is_some alloc) place major.Text n rest.now) ≡ Err e) }
 {
     match alloc {
         Some(_) => match read_text(place, n, rest) {
@@ -243,7 +256,8 @@ fn pass_text(alloc: Option<Global>, place: usize, n: u64, rest: &[u8]) -> Result
 }
 
 fn pass_some(place: usize, n: u64, rest: &[u8]) -> Result<&[u8], CborFault>
-    ensures { Gives (λ rest. (tt, rest.now)) result (pass_content false place major.Bytes n rest.now) }
+    ensures gives { Gives (λ rest. (tt, rest.now)) result (pass_content false place major.Bytes n rest.now) }
+    ensures exact { IfErr result (λ e. (pass_content false place major.Bytes n rest.now) ≡ Err e) }
 {
     if (rest.len() as u64) < n {
         return Err(CborFault::Truncated(place));
@@ -253,7 +267,8 @@ fn pass_some(place: usize, n: u64, rest: &[u8]) -> Result<&[u8], CborFault>
 
 #[tactic(auto, unfolding(crate::specs::Passing::pass_chunk))]
 fn pass_byte_chunk(total: usize, bytes: &[u8]) -> Result<&[u8], CborFault>
-    ensures { Gives (λ rest. (tt, rest.now)) result (pass_chunk total major.Bytes tt bytes.now) }
+    ensures gives { Gives (λ rest. (tt, rest.now)) result (pass_chunk total major.Bytes tt bytes.now) }
+    ensures exact { IfErr result (λ e. (pass_chunk total major.Bytes tt bytes.now) ≡ Err e) }
 {
     let place = total.saturating_sub(bytes.len());
     let (head, rest) = read_head(place, bytes)?;
@@ -263,7 +278,8 @@ fn pass_byte_chunk(total: usize, bytes: &[u8]) -> Result<&[u8], CborFault>
 
 #[tactic(auto, unfolding(crate::specs::Passing::pass_chunk))]
 fn pass_text_chunk(total: usize, bytes: &[u8]) -> Result<&[u8], CborFault>
-    ensures { Gives (λ rest. (tt, rest.now)) result (pass_chunk total major.Text tt bytes.now) }
+    ensures gives { Gives (λ rest. (tt, rest.now)) result (pass_chunk total major.Text tt bytes.now) }
+    ensures exact { IfErr result (λ e. (pass_chunk total major.Text tt bytes.now) ≡ Err e) }
 {
     let place = total.saturating_sub(bytes.len());
     let (head, rest) = read_head(place, bytes)?;
@@ -273,9 +289,10 @@ fn pass_text_chunk(total: usize, bytes: &[u8]) -> Result<&[u8], CborFault>
     }
 }
 
-#[tactic(auto, using(crate::proofs::Loops::open_more, crate::proofs::Loops::open_fails, crate::proofs::Loops::open_ends, crate::proofs::Loops::open_over))]
+#[tactic(auto, using(crate::proofs::Loops::open_more, crate::proofs::Loops::open_fails, crate::proofs::Loops::open_ends, crate::proofs::Loops::open_over, crate::proofs::Loops::open_refuses))]
 fn pass_byte_chunks(total: usize, bytes: &[u8]) -> Result<&[u8], CborFault>
-    ensures { Gives (λ rest. (tt, rest.now)) result (open_at (pass_chunk total major.Bytes) total (length bytes.now) tt bytes.now) }
+    ensures gives { Gives (λ rest. (tt, rest.now)) result (open_at (pass_chunk total major.Bytes) total (length bytes.now) tt bytes.now) }
+    ensures exact { IfErr result (λ e. (open_at (pass_chunk total major.Bytes) total (length bytes.now) tt bytes.now) ≡ Err e) }
 {
     let mut rest = bytes;
     for _turn in 0..bytes.len() {
@@ -290,9 +307,10 @@ fn pass_byte_chunks(total: usize, bytes: &[u8]) -> Result<&[u8], CborFault>
     Err(CborFault::Truncated(total))
 }
 
-#[tactic(auto, using(crate::proofs::Loops::open_more, crate::proofs::Loops::open_fails, crate::proofs::Loops::open_ends, crate::proofs::Loops::open_over))]
+#[tactic(auto, using(crate::proofs::Loops::open_more, crate::proofs::Loops::open_fails, crate::proofs::Loops::open_ends, crate::proofs::Loops::open_over, crate::proofs::Loops::open_refuses))]
 fn pass_text_chunks(total: usize, bytes: &[u8]) -> Result<&[u8], CborFault>
-    ensures { Gives (λ rest. (tt, rest.now)) result (open_at (pass_chunk total major.Text) total (length bytes.now) tt bytes.now) }
+    ensures gives { Gives (λ rest. (tt, rest.now)) result (open_at (pass_chunk total major.Text) total (length bytes.now) tt bytes.now) }
+    ensures exact { IfErr result (λ e. (open_at (pass_chunk total major.Text) total (length bytes.now) tt bytes.now) ≡ Err e) }
 {
     let mut rest = bytes;
     for _turn in 0..bytes.len() {

@@ -58,7 +58,7 @@ fn read_first(alloc: Global, strict: bool, bytes: &[u8]) -> Result<(Item, usize)
 /// The item at the front of the bytes, with so many levels left for it and what is inside it.
 #[cycle(reading)]
 #[tactic(auto, unfolding(crate::specs::Reading::item_at))]
-fn read_item(
+pub(crate) fn read_item(
     alloc: Global,
     strict: bool,
     total: usize,
@@ -202,7 +202,8 @@ fn demand(strict: bool, deterministic: bool, place: usize) -> Result<(), CborFau
 
 /// The fault of an item below the deepest level.
 pub(crate) fn refuse_buried(place: usize, head: Head, rest: &[u8]) -> CborFault
-    ensures { Fails result (buried_in place head rest.now) }
+    ensures gives { Fails result (buried_in place head rest.now) }
+    ensures exact { buried_in place head rest.now ≡ Err result }
 {
     match head {
         Head::Sized(Major::Bytes, n, _) => match read_bytes(place, n, rest) {
