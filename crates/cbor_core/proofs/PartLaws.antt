@@ -18,7 +18,7 @@ use Rattle.cbor_core.specs.declared.item.Item.TheOpen.{Item-F}
 use Rattle.cbor_core.specs.Reading.{Read, ◌>>=◌, Fails, breaks, head_at, item_at, first_item}
 use Rattle.cbor_core.specs.Passing.{pass_at}
 use Rattle.cbor_core.specs.Spelling.{code, is_shortest, IsHead, SpellsRow, IsPair, SpellsLayer, SpellsWithin}
-use Rattle.cbor_core.specs.Parts.{inner_in, inner, entry_of, Ends, Stands, Next, Inside}
+use Rattle.cbor_core.specs.Parts.{inner_in, inner, entry_of, head_major, head_number, major_in, number_in, Ends, Stands, Next, Inside}
 use Rattle.cbor_core.proofs.Bytes.{IsBytes, ok_is}
 use Rattle.cbor_core.proofs.Heads.{head_again, open_again, simple_again, no_break}
 use Rattle.cbor_core.proofs.Again.{item_again, item_starts, item_some, err_not_ok}
@@ -180,13 +180,15 @@ Holds levels entry.Leaf xs mid = xs ≡ []
 Holds levels (entry.Counted n) xs mid = RowAt levels (left.Counted n) xs mid
 Holds levels entry.ToBreak xs mid = RowAt levels left.ToBreak xs mid
 
-record Enters (levels : ℕ) (xs : List Item) (tail : List ℕ) : Type 0 where
+record Enters (levels : ℕ) (f : Item-F Item) (tail : List ℕ) : Type 0 where
   pub head : Head
   pub front : List ℕ
   pub mid : List ℕ
   pub reads : (place : ℕ) → head_at place tail ≡ Ok (head, mid)
   pub parts : tail ≡ front ++ mid
-  pub holds : Holds levels (entry_of head) xs mid
+  pub holds : Holds levels (entry_of head) (inner_in f) mid
+  pub major : head_major head ≡ major_in f
+  pub number : head_number head ≡ number_in f
 
 -- a map's pairs as a row of keys and values
 paired : (spells : Item → List ℕ → Type 0) (before : List (Item × Item)) (any : List Item) (ps : List (Item × Item)) (row : List ℕ) → SpellsRow (IsPair false spells) before ps row
@@ -221,54 +223,59 @@ one_row levels x text h = (text, [], h, refl, sym (append-nil text))
 head_reads : (m : Major) (n : ℕ) (head mid : List ℕ) (h : IsHead false m n head) (place : ℕ) → head_at place (head ++ mid) ≡ Ok (heads.Sized m n (is_shortest h.form n), mid)
 head_reads m n head mid h place = ap (λ t. head_at place (t ++ mid)) h.bytes ∙ head_again place m h.form n mid h.fits
 
-sized_enters : (levels : ℕ) (xs : List Item) (m : Major) (n : ℕ) (head mid tail : List ℕ) (h : IsHead false m n head) → tail ≡ head ++ mid
-    → Holds levels (entry_of (heads.Sized m n (is_shortest h.form n))) xs mid → Enters levels xs tail
-sized_enters levels xs m n head mid tail h e holds = record {
+sized_enters : (levels : ℕ) (f : Item-F Item) (m : Major) (n : ℕ) (head mid tail : List ℕ) (h : IsHead false m n head) → tail ≡ head ++ mid
+    → Holds levels (entry_of (heads.Sized m n (is_shortest h.form n))) (inner_in f) mid → code m ≡ major_in f → head_number (heads.Sized m n (is_shortest h.form n)) ≡ number_in f → Enters levels f tail
+sized_enters levels f m n head mid tail h e holds major number = record {
   head = heads.Sized m n (is_shortest h.form n);
   front = head;
   mid = mid;
   reads = λ place. ap (head_at place) e ∙ head_reads m n head mid h place;
   parts = e;
   holds = holds;
+  major = major;
+  number = number;
 }
 
-open_enters : (levels : ℕ) (xs : List Item) (m : Major) (mid tail : List ℕ) → tail ≡ (32 * code m + 31) ∷ mid → Holds levels (entry_of (heads.Open m)) xs mid → Enters levels xs tail
-open_enters levels xs m mid tail e holds = record {
+open_enters : (levels : ℕ) (f : Item-F Item) (m : Major) (mid tail : List ℕ) → tail ≡ (32 * code m + 31) ∷ mid → Holds levels (entry_of (heads.Open m)) (inner_in f) mid
+    → code m ≡ major_in f → None ≡ number_in f → Enters levels f tail
+open_enters levels f m mid tail e holds major number = record {
   head = heads.Open m;
   front = (32 * code m + 31) ∷ [];
   mid = mid;
   reads = λ place. ap (head_at place) e ∙ open_again place m mid;
   parts = e;
   holds = holds;
+  major = major;
+  number = number;
 }
 
-layer_enters : (levels : ℕ) (f : Item-F Item) (text after : List ℕ) → length (text ++ after) < 2 ^ 64 → SpellsLayer false (SpellsWithin false levels) f text → Enters levels (inner_in f) (text ++ after)
-layer_enters levels (Item-F.Uint n) text after small h = sized_enters levels [] major.Unsigned n text after (text ++ after) h refl refl
-layer_enters levels (Item-F.Nint n) text after small h = sized_enters levels [] major.Negative n text after (text ++ after) h refl refl
-layer_enters levels (Item-F.Bytes b) text after small (inl h) = sized_enters levels [] major.Bytes (length b) h.head (b ++ after) (text ++ after) h.has_head (ap (λ t. t ++ after) h.bytes ∙ append_assoc h.head b after) refl
-layer_enters levels (Item-F.Bytes b) text after small (inr h) = open_enters levels [] major.Bytes ((h.has_chunks.row ++ 255 ∷ []) ++ after) (text ++ after) (ap (λ t. t ++ after) h.has_chunks.bytes) refl
-layer_enters levels (Item-F.Text b) text after small (inl h) = sized_enters levels [] major.Text (length b) h.head (b ++ after) (text ++ after) h.has_head (ap (λ t. t ++ after) h.bytes ∙ append_assoc h.head b after) refl
-layer_enters levels (Item-F.Text b) text after small (inr h) = open_enters levels [] major.Text ((h.has_chunks.row ++ 255 ∷ []) ++ after) (text ++ after) (ap (λ t. t ++ after) h.has_chunks.bytes) refl
+layer_enters : (levels : ℕ) (f : Item-F Item) (text after : List ℕ) → length (text ++ after) < 2 ^ 64 → SpellsLayer false (SpellsWithin false levels) f text → Enters levels f (text ++ after)
+layer_enters levels (Item-F.Uint n) text after small h = sized_enters levels (Item-F.Uint n) major.Unsigned n text after (text ++ after) h refl refl refl refl
+layer_enters levels (Item-F.Nint n) text after small h = sized_enters levels (Item-F.Nint n) major.Negative n text after (text ++ after) h refl refl refl refl
+layer_enters levels (Item-F.Bytes b) text after small (inl h) = sized_enters levels (Item-F.Bytes b) major.Bytes (length b) h.head (b ++ after) (text ++ after) h.has_head (ap (λ t. t ++ after) h.bytes ∙ append_assoc h.head b after) refl refl refl
+layer_enters levels (Item-F.Bytes b) text after small (inr h) = open_enters levels (Item-F.Bytes b) major.Bytes ((h.has_chunks.row ++ 255 ∷ []) ++ after) (text ++ after) (ap (λ t. t ++ after) h.has_chunks.bytes) refl refl refl
+layer_enters levels (Item-F.Text b) text after small (inl h) = sized_enters levels (Item-F.Text b) major.Text (length b) h.head (b ++ after) (text ++ after) h.has_head (ap (λ t. t ++ after) h.bytes ∙ append_assoc h.head b after) refl refl refl
+layer_enters levels (Item-F.Text b) text after small (inr h) = open_enters levels (Item-F.Text b) major.Text ((h.has_chunks.row ++ 255 ∷ []) ++ after) (text ++ after) (ap (λ t. t ++ after) h.has_chunks.bytes) refl refl refl
 layer_enters levels (Item-F.Array xs) text after small (inl h) =
-    sized_enters levels xs major.Array (length xs) h.head (h.row ++ after) (text ++ after) h.has_head (ap (λ t. t ++ after) h.bytes ∙ append_assoc h.head h.row after)
-    (record { row = h.row; rest = after; has_row = h.has_row; ends = refl; bytes = refl })
+    sized_enters levels (Item-F.Array xs) major.Array (length xs) h.head (h.row ++ after) (text ++ after) h.has_head (ap (λ t. t ++ after) h.bytes ∙ append_assoc h.head h.row after)
+    (record { row = h.row; rest = after; has_row = h.has_row; ends = refl; bytes = refl }) refl refl
 layer_enters levels (Item-F.Array xs) text after small (inr h) =
-    open_enters levels xs major.Array ((h.row ++ 255 ∷ []) ++ after) (text ++ after) (ap (λ t. t ++ after) h.bytes)
-    (record { row = h.row; rest = 255 ∷ after; has_row = h.has_row; ends = (after, refl); bytes = append_assoc h.row (255 ∷ []) after })
+    open_enters levels (Item-F.Array xs) major.Array ((h.row ++ 255 ∷ []) ++ after) (text ++ after) (ap (λ t. t ++ after) h.bytes)
+    (record { row = h.row; rest = 255 ∷ after; has_row = h.has_row; ends = (after, refl); bytes = append_assoc h.row (255 ∷ []) after }) refl refl
 layer_enters levels (Item-F.Map ps) text after small (inl h) =
     let flat = flat_map (λ (p : Item × Item). p.0 ∷ p.1 ∷ []) ps in
     let row = paired (SpellsWithin false levels) [] [] ps h.row h.has_row in
     let long : length flat ≤ length h.row = row_count levels [] flat h.row row in
     let len : length (text ++ after) ≡ (length h.head + length h.row) + length after = length-append text after ∙ ap (λ k. k + length after) (ap length h.bytes ∙ length-append h.head h.row) in
-    sized_enters levels flat major.Map (length ps) h.head (h.row ++ after) (text ++ after) h.has_head (ap (λ t. t ++ after) h.bytes ∙ append_assoc h.head h.row after)
-    (record { row = h.row; rest = after; has_row = row; ends = omega (arith, doubled ps, long, len, small); bytes = refl })
+    sized_enters levels (Item-F.Map ps) major.Map (length ps) h.head (h.row ++ after) (text ++ after) h.has_head (ap (λ t. t ++ after) h.bytes ∙ append_assoc h.head h.row after)
+    (record { row = h.row; rest = after; has_row = row; ends = omega (arith, doubled ps, long, len, small); bytes = refl }) refl refl
 layer_enters levels (Item-F.Map ps) text after small (inr h) =
-    open_enters levels (flat_map (λ (p : Item × Item). p.0 ∷ p.1 ∷ []) ps) major.Map ((h.row ++ 255 ∷ []) ++ after) (text ++ after) (ap (λ t. t ++ after) h.bytes)
-    (record { row = h.row; rest = 255 ∷ after; has_row = paired (SpellsWithin false levels) [] [] ps h.row h.has_row; ends = (after, refl); bytes = append_assoc h.row (255 ∷ []) after })
+    open_enters levels (Item-F.Map ps) major.Map ((h.row ++ 255 ∷ []) ++ after) (text ++ after) (ap (λ t. t ++ after) h.bytes)
+    (record { row = h.row; rest = 255 ∷ after; has_row = paired (SpellsWithin false levels) [] [] ps h.row h.has_row; ends = (after, refl); bytes = append_assoc h.row (255 ∷ []) after }) refl refl
 layer_enters levels (Item-F.Tag t x) text after small h =
-    sized_enters levels (x ∷ []) major.Tag t h.head (h.content ++ after) (text ++ after) h.has_head (ap (λ u. u ++ after) h.bytes ∙ append_assoc h.head h.content after)
-    (record { row = h.content; rest = after; has_row = one_row levels x h.content h.has_content; ends = refl; bytes = refl })
-layer_enters levels (Item-F.Simple n) text after small h = record { head = heads.Simple n; front = text; mid = after; reads = λ place. simple_again place n text after h; parts = refl; holds = refl }
+    sized_enters levels (Item-F.Tag t x) major.Tag t h.head (h.content ++ after) (text ++ after) h.has_head (ap (λ u. u ++ after) h.bytes ∙ append_assoc h.head h.content after)
+    (record { row = h.content; rest = after; has_row = one_row levels x h.content h.has_content; ends = refl; bytes = refl }) refl refl
+layer_enters levels (Item-F.Simple n) text after small h = record { head = heads.Simple n; front = text; mid = after; reads = λ place. simple_again place n text after h; parts = refl; holds = refl; major = refl; number = refl }
 
 -- ---- the first item inside
 
@@ -283,17 +290,17 @@ entered input at levels entry.Leaf xs mid o h place within small first = subst (
 entered input at levels (entry.Counted n) xs mid o h place within small first = row_next input at levels (left.Counted n) xs mid h.row h.rest o h.has_row h.ends h.bytes place within small first
 entered input at levels entry.ToBreak xs mid o h place within small first = row_next input at levels left.ToBreak xs mid h.row h.rest o h.has_row h.ends h.bytes place within small first
 
-spelled_enters : (levels : ℕ) (x : Item) (text after : List ℕ) → length (text ++ after) < 2 ^ 64 → SpellsWithin false levels x text → Enters (levels - 1) (inner x) (text ++ after)
+spelled_enters : (levels : ℕ) (x : Item) (text after : List ℕ) → length (text ++ after) < 2 ^ 64 → SpellsWithin false levels x text → Enters (levels - 1) (out-Item x) (text ++ after)
 unfolding SpellsWithin
 spelled_enters zero x text after small h = absurd h
 spelled_enters (suc levels) x text after small h =
     let e : suc levels - 1 ≡ levels = omega arith in
-    subst (λ k. Enters k (inner x) (text ++ after)) (sym e) (layer_enters levels (out-Item x) text after small h)
+    subst (λ k. Enters k (out-Item x) (text ++ after)) (sym e) (layer_enters levels (out-Item x) text after small h)
 
-stands_enters : (c : Cursor) (input : List ℕ) (x : Item) (text : List ℕ) (later : List Item) → Stands c input x text later → Enters (c.levels - 1) (inner x) c.tail.now
+stands_enters : (c : Cursor) (input : List ℕ) (x : Item) (text : List ℕ) (later : List Item) → Stands c input x text later → Enters (c.levels - 1) (out-Item x) c.tail.now
 stands_enters c input x text later s =
     let small : length (text ++ (s.row ++ s.rest)) < 2 ^ 64 = omega (arith, ap length s.bytes, s.within, s.small) in
-    subst (Enters (c.levels - 1) (inner x)) (sym s.bytes) (spelled_enters c.levels x text (s.row ++ s.rest) small s.spelled)
+    subst (Enters (c.levels - 1) (out-Item x)) (sym s.bytes) (spelled_enters c.levels x text (s.row ++ s.rest) small s.spelled)
 
 pub inside_found : (c : Cursor) (input : List ℕ) (x : Item) (text : List ℕ) (later : List Item) → Stands c input x text later → (head : Head) (rest : List ℕ) (at levels : ℕ) (o : Option Cursor)
     → head_at 0 c.tail.now ≡ Ok (head, rest) → at ≡ min (c.at + (length c.tail.now - length rest)) (2 ^ 64 - 1) → levels ≡ c.levels - 1 → FirstIn levels at (entry_of head) rest o → Inside input c.at x o
@@ -345,3 +352,19 @@ inside_leaf c input x text later s head rest reads leaf = go (min (c.at + (lengt
   where
     go : (at levels : ℕ) → at ≡ min (c.at + (length c.tail.now - length rest)) (2 ^ 64 - 1) → levels ≡ c.levels - 1 → Inside input c.at x None
     go at levels a l = inside_found c input x text later s head rest at levels None reads a l (subst (λ (e : Entry). FirstIn levels at e rest None) leaf refl)
+
+-- what a head that was read says of the item
+same_head : (c : Cursor) (input : List ℕ) (x : Item) (text : List ℕ) (later : List Item) → Stands c input x text later → (head : Head) (rest : List ℕ)
+    → head_at 0 c.tail.now ≡ Ok (head, rest) → (head_major head ≡ major_in (out-Item x)) × (head_number head ≡ number_in (out-Item x))
+same_head c input x text later s head rest reads =
+    let en = stands_enters c input x text later s in
+    let is : en.head ≡ head = ap (λ (p : Head × List ℕ). p.0) (ok_is (en.head, en.mid) (head, rest) (sym (en.reads 0) ∙ reads)) in
+    (ap head_major (sym is) ∙ en.major, ap head_number (sym is) ∙ en.number)
+
+pub major_is : (c : Cursor) (input : List ℕ) (x : Item) (text : List ℕ) (later : List Item) → Stands c input x text later → (head : Head) (rest : List ℕ)
+    → head_at 0 c.tail.now ≡ Ok (head, rest) → head_major head ≡ major_in (out-Item x)
+major_is c input x text later s head rest reads = (same_head c input x text later s head rest reads).0
+
+pub number_is : (c : Cursor) (input : List ℕ) (x : Item) (text : List ℕ) (later : List Item) → Stands c input x text later → (head : Head) (rest : List ℕ)
+    → head_at 0 c.tail.now ≡ Ok (head, rest) → head_number head ≡ number_in (out-Item x)
+number_is c input x text later s head rest reads = (same_head c input x text later s head rest reads).1

@@ -11,7 +11,7 @@ use Rattle.cbor_core.specs.declared.head.Head.TheVariants as heads
 use Rattle.cbor_core.specs.declared.item.Item.{Item, out-Item}
 use Rattle.cbor_core.specs.declared.item.Item.TheOpen.{Item-F}
 use Rattle.cbor_core.specs.Reading.{head_at}
-use Rattle.cbor_core.specs.Spelling.{SpellsRow, SpellsWithin}
+use Rattle.cbor_core.specs.Spelling.{code, SpellsRow, SpellsWithin}
 
 -- the items inside an item, in order: elements, keys and values in turn, or what is tagged
 abbrev pub inner_in : Item-F Item → List Item
@@ -31,6 +31,37 @@ entry_of (heads.Sized major.Tag n s) = entry.Counted 1
 entry_of (heads.Open major.Array) = entry.ToBreak
 entry_of (heads.Open major.Map) = entry.ToBreak
 entry_of _ = entry.Leaf
+
+-- the number of a major type, of a head and of an item
+abbrev pub head_major : Head → ℕ
+head_major (heads.Sized m n s) = code m
+head_major (heads.Open m) = code m
+head_major _ = 7
+
+abbrev pub major_in : Item-F Item → ℕ
+major_in (Item-F.Uint n) = 0
+major_in (Item-F.Nint n) = 1
+major_in (Item-F.Bytes b) = 2
+major_in (Item-F.Text t) = 3
+major_in (Item-F.Array xs) = 4
+major_in (Item-F.Map ps) = 5
+major_in (Item-F.Tag t x) = 6
+major_in (Item-F.Simple n) = 7
+
+-- the argument of a number, a tag or a simple value
+abbrev pub head_number : Head → Option ℕ
+head_number (heads.Sized major.Unsigned n s) = Some n
+head_number (heads.Sized major.Negative n s) = Some n
+head_number (heads.Sized major.Tag n s) = Some n
+head_number (heads.Simple n) = Some n
+head_number _ = None
+
+abbrev pub number_in : Item-F Item → Option ℕ
+number_in (Item-F.Uint n) = Some n
+number_in (Item-F.Nint n) = Some n
+number_in (Item-F.Tag t x) = Some t
+number_in (Item-F.Simple n) = Some n
+number_in _ = None
 
 -- what ends a row of items: their number is known, or a break stands after them
 abbrev pub Ends : Left → List Item → List ℕ → Type 0

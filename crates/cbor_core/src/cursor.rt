@@ -1,8 +1,8 @@
 ghost use Rattle.std.specs.Prelude.{◌≡◌, ℕ, ◌+◌, ◌-◌, ◌<◌, ◌++◌, min, List, [], take, length, IfOk, IfErr, IsNone, IsSomeAnd, true, false, Ok};
-ghost use Rattle.cbor_core.specs.declared.item.Item.{Item};
+ghost use Rattle.cbor_core.specs.declared.item.Item.{Item, out-Item};
 ghost use Rattle.cbor_core.specs.Reading.{Fails, first_item, breaks};
-ghost use Rattle.cbor_core.specs.Spelling.{SpellsWithin};
-ghost use Rattle.cbor_core.specs.Parts.{Stands, Next, entry_of, Inside};
+ghost use Rattle.cbor_core.specs.Spelling.{SpellsWithin, code};
+ghost use Rattle.cbor_core.specs.Parts.{Stands, Next, entry_of, Inside, major_in, number_in, head_major, head_number};
 
 use crate::fault::CborFault;
 use crate::head::{Head, Major};
@@ -56,6 +56,26 @@ impl<'a> Cursor<'a> {
         ensures { result ≡ self.now.at }
     {
         self.at
+    }
+
+    /// The number of the item's major type.
+    pub fn major(&self) -> u8
+        ensures { (input : List ℕ) (x : Item) (text : List ℕ) (later : List Item) → Stands self.now input x text later → result ≡ major_in (out-Item x) }
+    {
+        match read_head(0, self.tail) {
+            Ok((head, _rest)) => find_code(head),
+            Err(_) => 7,
+        }
+    }
+
+    /// The argument of a number, a tag or a simple value.
+    pub fn number(&self) -> Option<u64>
+        ensures { (input : List ℕ) (x : Item) (text : List ℕ) (later : List Item) → Stands self.now input x text later → result ≡ number_in (out-Item x) }
+    {
+        match read_head(0, self.tail) {
+            Ok((head, _rest)) => find_number(head),
+            Err(_) => None,
+        }
     }
 
     /// The item's bytes as received.
@@ -178,5 +198,41 @@ fn to_break<'a>(at: usize, levels: u8, tail: &'a [u8]) -> Option<Cursor<'a>>
             levels,
             left: Left::ToBreak,
         })
+    }
+}
+
+fn find_code(head: Head) -> u8
+    ensures { result ≡ head_major head }
+{
+    match head {
+        Head::Sized(major, _, _) => code_of(major),
+        Head::Open(major) => code_of(major),
+        _ => 7,
+    }
+}
+
+fn code_of(major: Major) -> u8
+    ensures { result ≡ code major }
+{
+    match major {
+        Major::Unsigned => 0,
+        Major::Negative => 1,
+        Major::Bytes => 2,
+        Major::Text => 3,
+        Major::Array => 4,
+        Major::Map => 5,
+        Major::Tag => 6,
+    }
+}
+
+fn find_number(head: Head) -> Option<u64>
+    ensures { result ≡ head_number head }
+{
+    match head {
+        Head::Sized(Major::Unsigned, n, _) => Some(n),
+        Head::Sized(Major::Negative, n, _) => Some(n),
+        Head::Sized(Major::Tag, n, _) => Some(n),
+        Head::Simple(value) => Some(value as u64),
+        _ => None,
     }
 }
