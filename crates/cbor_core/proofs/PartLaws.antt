@@ -1,6 +1,7 @@
 -- Where a cursor stands, and where its moves lead.
-use Rattle.std.proofs.Common.{◌≡◌, ℕ, zero, suc, ◌+◌, ◌-◌, ◌*◌, ◌^◌, ◌<◌, ◌≤◌, min, true, false, List, [], ◌∷◌, ◌++◌, length, take, drop, flat_map, Option, Some, None, Result, Ok, Err, refl, sym, ap, subst, ◌∙◌, append_assoc, arith, inl, inr}
+use Rattle.std.proofs.Common.{◌≡◌, ℕ, zero, suc, ◌+◌, ◌-◌, ◌*◌, ◌^◌, ◌<◌, ◌≤◌, min, true, false, cond, ltb, List, [], ◌∷◌, ◌++◌, length, take, drop, flat_map, Option, Some, None, Result, Ok, Err, refl, sym, ap, subst, ◌∙◌, append_assoc, arith, inl, inr}
 use Rattle.std.specs.Prelude.{IsNone, IsSomeAnd}
+use Rattle.std.proofs.lemmas.Bool.{le-ltb}
 use Rattle.std.proofs.lemmas.List.{length-append, append-nil, take_at, drop_at, take-append-drop}
 use Rattle.cbor_core.specs.declared.cursor.Cursor.{Cursor}
 use Rattle.cbor_core.specs.declared.cursor.Left.{Left}
@@ -17,8 +18,8 @@ use Rattle.cbor_core.specs.declared.item.Item.{Item, out-Item}
 use Rattle.cbor_core.specs.declared.item.Item.TheOpen.{Item-F}
 use Rattle.cbor_core.specs.Reading.{Read, ◌>>=◌, Fails, breaks, head_at, item_at, first_item}
 use Rattle.cbor_core.specs.Passing.{pass_at}
-use Rattle.cbor_core.specs.Spelling.{code, is_shortest, IsHead, SpellsRow, IsPair, SpellsLayer, SpellsWithin}
-use Rattle.cbor_core.specs.Parts.{inner_in, inner, entry_of, head_major, head_number, major_in, number_in, Ends, Stands, Next, Inside}
+use Rattle.cbor_core.specs.Spelling.{code, is_shortest, IsHead, SpellsRow, IsPair, SpellsLayer, SpellsWithin, IsString, IsChunked}
+use Rattle.cbor_core.specs.Parts.{inner_in, inner, entry_of, head_major, head_number, major_in, number_in, content_in, StringContent, ContentOf, Ends, Stands, Next, Inside}
 use Rattle.cbor_core.proofs.Bytes.{IsBytes, ok_is}
 use Rattle.cbor_core.proofs.Heads.{head_again, open_again, simple_again, no_break}
 use Rattle.cbor_core.proofs.Again.{item_again, item_starts, item_some, err_not_ok}
@@ -368,3 +369,57 @@ major_is c input x text later s head rest reads = (same_head c input x text late
 pub number_is : (c : Cursor) (input : List ℕ) (x : Item) (text : List ℕ) (later : List Item) → Stands c input x text later → (head : Head) (rest : List ℕ)
     → head_at 0 c.tail.now ≡ Ok (head, rest) → head_number head ≡ number_in (out-Item x)
 number_is c input x text later s head rest reads = (same_head c input x text later s head rest reads).1
+
+-- ---- contents
+
+-- what holds of a head and what is behind it holds of what was read
+of_head : (P : Head × List ℕ → Type 0) (tail : List ℕ) (x y : Head × List ℕ) → head_at 0 tail ≡ Ok x → head_at 0 tail ≡ Ok y → P x → P y
+of_head P tail x y a b h = subst P (ok_is x y (sym a ∙ b)) h
+
+front_content : (b after : List ℕ) → cond (ltb (length (b ++ after)) (length b)) None (Some (take (length b) (b ++ after))) ≡ Some b
+front_content b after = rw (le-ltb (length (b ++ after)) (length b) (omega (arith, length-append b after)), take_at b after (length b) refl) refl
+
+string_head : (m : Major) (b text after : List ℕ) (h : IsString false m b text) → head_at 0 (text ++ after) ≡ Ok (heads.Sized m (length b) (is_shortest h.has_head.form (length b)), b ++ after)
+string_head m b text after h = ap (λ t. head_at 0 (t ++ after)) h.bytes ∙ ap (head_at 0) (append_assoc h.head b after) ∙ head_reads m (length b) h.head (b ++ after) h.has_head 0
+
+chunked_head : (m : Major) (b text after : List ℕ) (h : IsChunked false m b text) → head_at 0 (text ++ after) ≡ Ok (heads.Open m, (h.has_chunks.row ++ 255 ∷ []) ++ after)
+chunked_head m b text after h = ap (λ t. head_at 0 (t ++ after)) h.has_chunks.bytes ∙ open_again 0 m ((h.has_chunks.row ++ 255 ∷ []) ++ after)
+
+layer_content : (spells : Item → List ℕ → Type 0) (f : Item-F Item) (text after : List ℕ) (y : Head × List ℕ) → SpellsLayer false spells f text → head_at 0 (text ++ after) ≡ Ok y → ContentOf f text (content_in y.0 y.1)
+layer_content spells (Item-F.Uint n) text after y h e = of_head (λ y. content_in y.0 y.1 ≡ None) (text ++ after) (heads.Sized major.Unsigned n (is_shortest h.form n), after) y (head_reads major.Unsigned n text after h 0) e refl
+layer_content spells (Item-F.Nint n) text after y h e = of_head (λ y. content_in y.0 y.1 ≡ None) (text ++ after) (heads.Sized major.Negative n (is_shortest h.form n), after) y (head_reads major.Negative n text after h 0) e refl
+layer_content spells (Item-F.Bytes b) text after y (inl h) e =
+    of_head (λ y. StringContent major.Bytes b text (content_in y.0 y.1)) (text ++ after) (heads.Sized major.Bytes (length b) (is_shortest h.has_head.form (length b)), b ++ after) y (string_head major.Bytes b text after h) e
+    (subst (StringContent major.Bytes b text) (sym (front_content b after)) (h, refl))
+layer_content spells (Item-F.Bytes b) text after y (inr h) e =
+    of_head (λ y. StringContent major.Bytes b text (content_in y.0 y.1)) (text ++ after) (heads.Open major.Bytes, (h.has_chunks.row ++ 255 ∷ []) ++ after) y (chunked_head major.Bytes b text after h) e h
+layer_content spells (Item-F.Text b) text after y (inl h) e =
+    of_head (λ y. StringContent major.Text b text (content_in y.0 y.1)) (text ++ after) (heads.Sized major.Text (length b) (is_shortest h.has_head.form (length b)), b ++ after) y (string_head major.Text b text after h) e
+    (subst (StringContent major.Text b text) (sym (front_content b after)) (h, refl))
+layer_content spells (Item-F.Text b) text after y (inr h) e =
+    of_head (λ y. StringContent major.Text b text (content_in y.0 y.1)) (text ++ after) (heads.Open major.Text, (h.has_chunks.row ++ 255 ∷ []) ++ after) y (chunked_head major.Text b text after h) e h
+layer_content spells (Item-F.Array xs) text after y (inl h) e =
+    of_head (λ y. content_in y.0 y.1 ≡ None) (text ++ after) (heads.Sized major.Array (length xs) (is_shortest h.has_head.form (length xs)), h.row ++ after) y
+    (ap (λ t. head_at 0 (t ++ after)) h.bytes ∙ ap (head_at 0) (append_assoc h.head h.row after) ∙ head_reads major.Array (length xs) h.head (h.row ++ after) h.has_head 0) e refl
+layer_content spells (Item-F.Array xs) text after y (inr h) e =
+    of_head (λ y. content_in y.0 y.1 ≡ None) (text ++ after) (heads.Open major.Array, (h.row ++ 255 ∷ []) ++ after) y
+    (ap (λ t. head_at 0 (t ++ after)) h.bytes ∙ open_again 0 major.Array ((h.row ++ 255 ∷ []) ++ after)) e refl
+layer_content spells (Item-F.Map ps) text after y (inl h) e =
+    of_head (λ y. content_in y.0 y.1 ≡ None) (text ++ after) (heads.Sized major.Map (length ps) (is_shortest h.has_head.form (length ps)), h.row ++ after) y
+    (ap (λ t. head_at 0 (t ++ after)) h.bytes ∙ ap (head_at 0) (append_assoc h.head h.row after) ∙ head_reads major.Map (length ps) h.head (h.row ++ after) h.has_head 0) e refl
+layer_content spells (Item-F.Map ps) text after y (inr h) e =
+    of_head (λ y. content_in y.0 y.1 ≡ None) (text ++ after) (heads.Open major.Map, (h.row ++ 255 ∷ []) ++ after) y
+    (ap (λ t. head_at 0 (t ++ after)) h.bytes ∙ open_again 0 major.Map ((h.row ++ 255 ∷ []) ++ after)) e refl
+layer_content spells (Item-F.Tag t x) text after y h e =
+    of_head (λ y. content_in y.0 y.1 ≡ None) (text ++ after) (heads.Sized major.Tag t (is_shortest h.has_head.form t), h.content ++ after) y
+    (ap (λ u. head_at 0 (u ++ after)) h.bytes ∙ ap (head_at 0) (append_assoc h.head h.content after) ∙ head_reads major.Tag t h.head (h.content ++ after) h.has_head 0) e refl
+layer_content spells (Item-F.Simple n) text after y h e = of_head (λ y. content_in y.0 y.1 ≡ None) (text ++ after) (heads.Simple n, after) y (simple_again 0 n text after h) e refl
+
+spelled_content : (levels : ℕ) (x : Item) (text after : List ℕ) (y : Head × List ℕ) → SpellsWithin false levels x text → head_at 0 (text ++ after) ≡ Ok y → ContentOf (out-Item x) text (content_in y.0 y.1)
+unfolding SpellsWithin
+spelled_content zero x text after y h e = absurd h
+spelled_content (suc levels) x text after y h e = layer_content (SpellsWithin false levels) (out-Item x) text after y h e
+
+pub content_is : (c : Cursor) (input : List ℕ) (x : Item) (text : List ℕ) (later : List Item) → Stands c input x text later → (head : Head) (rest : List ℕ)
+    → head_at 0 c.tail.now ≡ Ok (head, rest) → ContentOf (out-Item x) text (content_in head rest)
+content_is c input x text later s head rest e = spelled_content c.levels x text (s.row ++ s.rest) (head, rest) s.spelled (sym (ap (head_at 0) s.bytes) ∙ e)

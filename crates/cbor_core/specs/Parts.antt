@@ -1,17 +1,18 @@
 -- The parts of an item that stands in an input.
-use Rattle.std.specs.Prelude.{◌≡◌, ℕ, ◌+◌, ◌-◌, ◌*◌, ◌^◌, ◌<◌, min, List, [], ◌∷◌, ◌++◌, length, drop, flat_map, Option, Some, None, Ok, false}
+use Rattle.std.specs.Prelude.{◌≡◌, ℕ, ◌+◌, ◌-◌, ◌*◌, ◌^◌, ◌<◌, min, List, [], ◌∷◌, ◌++◌, length, take, drop, nat_lt, if◌then◌else◌, flat_map, Option, Some, None, Ok, false}
 use Rattle.cbor_core.specs.declared.cursor.Cursor.{Cursor}
 use Rattle.cbor_core.specs.declared.cursor.Left.{Left}
 use Rattle.cbor_core.specs.declared.cursor.Left.TheVariants as left
 use Rattle.cbor_core.specs.declared.cursor.Entry.{Entry}
 use Rattle.cbor_core.specs.declared.cursor.Entry.TheVariants as entry
+use Rattle.cbor_core.specs.declared.head.Major.{Major}
 use Rattle.cbor_core.specs.declared.head.Major.TheVariants as major
 use Rattle.cbor_core.specs.declared.head.Head.{Head}
 use Rattle.cbor_core.specs.declared.head.Head.TheVariants as heads
 use Rattle.cbor_core.specs.declared.item.Item.{Item, out-Item}
 use Rattle.cbor_core.specs.declared.item.Item.TheOpen.{Item-F}
 use Rattle.cbor_core.specs.Reading.{head_at}
-use Rattle.cbor_core.specs.Spelling.{code, SpellsRow, SpellsWithin}
+use Rattle.cbor_core.specs.Spelling.{code, SpellsRow, SpellsWithin, IsString, IsChunked}
 
 -- the items inside an item, in order: elements, keys and values in turn, or what is tagged
 abbrev pub inner_in : Item-F Item → List Item
@@ -62,6 +63,22 @@ number_in (Item-F.Nint n) = Some n
 number_in (Item-F.Tag t x) = Some t
 number_in (Item-F.Simple n) = Some n
 number_in _ = None
+
+-- the content behind the head of a string of definite length
+abbrev pub content_in : Head → List ℕ → Option (List ℕ)
+content_in (heads.Sized major.Bytes n s) rest = if nat_lt (length rest) n then None else Some (take n rest)
+content_in (heads.Sized major.Text n s) rest = if nat_lt (length rest) n then None else Some (take n rest)
+content_in _ rest = None
+
+-- the content of a string where its length is definite
+abbrev pub StringContent : Major → List ℕ → List ℕ → Option (List ℕ) → Type 0
+StringContent m b text None = IsChunked false m b text
+StringContent m b text (Some content) = IsString false m b text × (content ≡ b)
+
+abbrev pub ContentOf : Item-F Item → List ℕ → Option (List ℕ) → Type 0
+ContentOf (Item-F.Bytes b) text o = StringContent major.Bytes b text o
+ContentOf (Item-F.Text t) text o = StringContent major.Text t text o
+ContentOf _ text o = o ≡ None
 
 -- what ends a row of items: their number is known, or a break stands after them
 abbrev pub Ends : Left → List Item → List ℕ → Type 0

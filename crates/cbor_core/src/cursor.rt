@@ -1,8 +1,9 @@
-ghost use Rattle.std.specs.Prelude.{◌≡◌, ℕ, ◌+◌, ◌-◌, ◌<◌, ◌++◌, min, List, [], take, length, IfOk, IfErr, IsNone, IsSomeAnd, true, false, Ok};
+ghost use Rattle.std.specs.Prelude.{◌≡◌, ℕ, ◌+◌, ◌-◌, ◌<◌, ◌++◌, min, List, [], take, length, IfOk, IfErr, IsNone, IsSomeAnd, Some, None, nat_lt, if◌then◌else◌, true, false, Ok};
+ghost use Rattle.std.specs.Option.{option_copied};
 ghost use Rattle.cbor_core.specs.declared.item.Item.{Item, out-Item};
 ghost use Rattle.cbor_core.specs.Reading.{Fails, first_item, breaks};
 ghost use Rattle.cbor_core.specs.Spelling.{SpellsWithin, code};
-ghost use Rattle.cbor_core.specs.Parts.{Stands, Next, entry_of, Inside, major_in, number_in, head_major, head_number};
+ghost use Rattle.cbor_core.specs.Parts.{Stands, Next, entry_of, Inside, major_in, number_in, head_major, head_number, ContentOf, content_in};
 
 use crate::fault::CborFault;
 use crate::head::{Head, Major};
@@ -74,6 +75,16 @@ impl<'a> Cursor<'a> {
     {
         match read_head(0, self.tail) {
             Ok((head, _rest)) => find_number(head),
+            Err(_) => None,
+        }
+    }
+
+    /// The content of a string whose head has a definite length.
+    pub fn content(&self) -> Option<&'a [u8]>
+        ensures { (input : List ℕ) (x : Item) (text : List ℕ) (later : List Item) → Stands self.now input x text later → ContentOf (out-Item x) text (option_copied result) }
+    {
+        match read_head(0, self.tail) {
+            Ok((head, rest)) => find_content(head, rest),
             Err(_) => None,
         }
     }
@@ -235,4 +246,23 @@ fn find_number(head: Head) -> Option<u64>
         Head::Simple(value) => Some(value as u64),
         _ => None,
     }
+}
+
+fn find_content(head: Head, rest: &[u8]) -> Option<&[u8]>
+    ensures { option_copied result ≡ content_in head rest.now }
+{
+    match head {
+        Head::Sized(Major::Bytes, n, _) => front(n, rest),
+        Head::Sized(Major::Text, n, _) => front(n, rest),
+        _ => None,
+    }
+}
+
+fn front(n: u64, rest: &[u8]) -> Option<&[u8]>
+    ensures { option_copied result ≡ (if nat_lt (length rest.now) n then None else Some (take n rest.now)) }
+{
+    if (rest.len() as u64) < n {
+        return None;
+    }
+    Some(rest.split_at(n as usize).0)
 }
