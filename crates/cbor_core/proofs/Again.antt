@@ -148,11 +148,11 @@ module _ (strict : Bool) (total : ℕ) (read : List ℕ → Read Item) (spells :
   layer_again (Item-F.Simple n) text rest h = same (items.Simple n) _ _ _ (sym (items.rolls-Simple n))
       (record { head = heads.Simple n; mid = rest; has_head = λ place. simple_again place n text rest h; has_content = λ place. refl })
 
-err_not_ok : {A : Type 0} (r : Result A CborFault) (f : CborFault) (x : A) → r ≡ Err f → r ≡ Ok x → ⊥
+pub err_not_ok : {A : Type 0} (r : Result A CborFault) (f : CborFault) (x : A) → r ≡ Err f → r ≡ Ok x → ⊥
 err_not_ok r f x a b = cc (a, b)
 
 -- no item begins with a break, and none is empty
-item_starts : (strict : Bool) (total levels : ℕ) (rest : List ℕ) (x : Item × List ℕ) → item_at strict total levels (255 ∷ rest) ≡ Ok x → ⊥
+pub item_starts : (strict : Bool) (total levels : ℕ) (rest : List ℕ) (x : Item × List ℕ) → item_at strict total levels (255 ∷ rest) ≡ Ok x → ⊥
 unfolding item_at
 item_starts strict total zero rest x e =
     let place = total - length (255 ∷ rest) in
@@ -163,7 +163,7 @@ item_starts strict total (suc levels) rest x e =
     let at : (head_at place (255 ∷ rest) >>= λ h. item_in strict total (item_at strict total levels) place h.0 h.1) ≡ Err (fault.Malformed place) = rw (break_is place rest) refl in
     err_not_ok _ (fault.Malformed place) x at e
 
-item_some : (strict : Bool) (total levels : ℕ) (x : Item × List ℕ) → item_at strict total levels [] ≡ Ok x → ⊥
+pub item_some : (strict : Bool) (total levels : ℕ) (x : Item × List ℕ) → item_at strict total levels [] ≡ Ok x → ⊥
 unfolding item_at head_at
 item_some strict total zero x e = cc
 item_some strict total (suc levels) x e = cc

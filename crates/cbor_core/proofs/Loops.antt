@@ -72,3 +72,11 @@ module _ {B : Type 0} (step : B → List ℕ → Read B) where
   pub open_fails : (f : CborFault) (total n turn : ℕ) (front : B) (bytes : List ℕ) (whole : Read B) → turn < n → breaks bytes ≡ false → Fails f (step front bytes)
       → open_at step total (n - turn) front bytes ≡ whole → Fails f whole
   open_fails f total n turn front bytes whole h goes e was = carries f (step front bytes) whole (λ g e. sym was ∙ open_stops total n turn front bytes g h goes e) e
+
+  pub row_refuses : (f : CborFault) (n turn : ℕ) (front : B) (bytes : List ℕ) (whole : Read B) → turn < n → step front bytes ≡ Err f
+      → row_at step (n - turn) front bytes ≡ whole → whole ≡ Err f
+  row_refuses f n turn front bytes whole h e was = sym was ∙ row_stops n turn front bytes f h e
+
+  pub open_refuses : (f : CborFault) (total n turn : ℕ) (front : B) (bytes : List ℕ) (whole : Read B) → turn < n → breaks bytes ≡ false → step front bytes ≡ Err f
+      → open_at step total (n - turn) front bytes ≡ whole → whole ≡ Err f
+  open_refuses f total n turn front bytes whole h goes e was = sym was ∙ open_stops total n turn front bytes f h goes e

@@ -3,12 +3,14 @@
 
 pub mod blob;
 mod copy;
+pub mod cursor;
 pub mod fault;
 pub mod head;
 pub mod item;
 mod keys;
 pub mod laws;
 pub mod no_memory;
+mod pass;
 pub mod read;
 mod read_head;
 mod strings;
@@ -16,6 +18,7 @@ pub mod text;
 pub mod write;
 
 pub use blob::Blob;
+pub use cursor::Cursor;
 pub use fault::CborFault;
 pub use item::{Item, Items, Pairs};
 pub use no_memory::NoMemory;

@@ -58,7 +58,7 @@ fn read_first(alloc: Global, strict: bool, bytes: &[u8]) -> Result<(Item, usize)
 /// The item at the front of the bytes, with so many levels left for it and what is inside it.
 #[cycle(reading)]
 #[tactic(auto, unfolding(crate::specs::Reading::item_at))]
-fn read_item(
+pub(crate) fn read_item(
     alloc: Global,
     strict: bool,
     total: usize,
@@ -201,8 +201,9 @@ fn demand(strict: bool, deterministic: bool, place: usize) -> Result<(), CborFau
 }
 
 /// The fault of an item below the deepest level.
-fn refuse_buried(place: usize, head: Head, rest: &[u8]) -> CborFault
-    ensures { Fails result (buried_in place head rest.now) }
+pub(crate) fn refuse_buried(place: usize, head: Head, rest: &[u8]) -> CborFault
+    ensures gives { Fails result (buried_in place head rest.now) }
+    ensures exact { buried_in place head rest.now ≡ Err result }
 {
     match head {
         Head::Sized(Major::Bytes, n, _) => match read_bytes(place, n, rest) {
@@ -293,7 +294,7 @@ fn next_item<'a>(
 
 #[cycle(reading)]
 #[tactic(auto, using(crate::proofs::Loops::row_more, crate::proofs::Loops::row_fails, crate::proofs::Loops::row_ends))]
-fn read_pairs(
+pub(crate) fn read_pairs(
     alloc: Global,
     strict: bool,
     total: usize,
@@ -317,7 +318,7 @@ fn read_pairs(
 
 #[cycle(reading)]
 #[tactic(auto, using(crate::proofs::Loops::open_more, crate::proofs::Loops::open_fails, crate::proofs::Loops::open_ends, crate::proofs::Loops::open_over))]
-fn read_open_pairs(
+pub(crate) fn read_open_pairs(
     alloc: Global,
     strict: bool,
     total: usize,

@@ -1,4 +1,4 @@
-ghost use Rattle.std.specs.Prelude.{◌≡◌, ◌<◌};
+ghost use Rattle.std.specs.Prelude.{◌≡◌, ◌<◌, IfErr, Err};
 ghost use Rattle.std.specs.Int.{w8, w16, w32, w64};
 ghost use Rattle.cbor_core.specs.Head.{major_of, size_of};
 ghost use Rattle.cbor_core.specs.Reading.{Gives, number_at, argument_at, other_at, head_at};
@@ -9,7 +9,8 @@ use crate::head::{Head, Major, Size};
 /// The head at the front of the bytes.
 #[tactic(auto, unfolding(crate::specs::Reading::head_at))]
 pub(crate) fn read_head(place: usize, bytes: &[u8]) -> Result<(Head, &[u8]), CborFault>
-    ensures { Gives (λ x. (x.0, x.1.now)) result (head_at place bytes.now) }
+    ensures gives { Gives (λ x. (x.0, x.1.now)) result (head_at place bytes.now) }
+    ensures exact { IfErr result (λ e. (head_at place bytes.now) ≡ Err e) }
 {
     match bytes {
         [] => Err(CborFault::Truncated(place)),
@@ -33,7 +34,8 @@ fn read_argument(
     low: u8,
     rest: &[u8],
 ) -> Result<(Head, &[u8]), CborFault>
-    ensures { Gives (λ x. (x.0, x.1.now)) result (argument_at place major size low rest.now) }
+    ensures gives { Gives (λ x. (x.0, x.1.now)) result (argument_at place major size low rest.now) }
+    ensures exact { IfErr result (λ e. (argument_at place major size low rest.now) ≡ Err e) }
 {
     match size {
         Size::Inside => Ok((Head::Sized(major, low as u64, true), rest)),
@@ -60,7 +62,8 @@ fn read_argument(
 
 #[tactic(auto, unfolding(crate::specs::Reading::other_at))]
 fn read_other(place: usize, size: Size, low: u8, rest: &[u8]) -> Result<(Head, &[u8]), CborFault>
-    ensures { Gives (λ x. (x.0, x.1.now)) result (other_at place size low rest.now) }
+    ensures gives { Gives (λ x. (x.0, x.1.now)) result (other_at place size low rest.now) }
+    ensures exact { IfErr result (λ e. (other_at place size low rest.now) ≡ Err e) }
 {
     match size {
         Size::Inside => Ok((Head::Simple(low), rest)),
@@ -124,7 +127,8 @@ fn find_size(low: u8) -> Size
 }
 
 fn read_u8(place: usize, bytes: &[u8]) -> Result<(u8, &[u8]), CborFault>
-    ensures { Gives (λ x. (x.0, x.1.now)) result (number_at place w8 bytes.now) }
+    ensures gives { Gives (λ x. (x.0, x.1.now)) result (number_at place w8 bytes.now) }
+    ensures exact { IfErr result (λ e. (number_at place w8 bytes.now) ≡ Err e) }
 {
     if bytes.len() < 1 {
         return Err(CborFault::Truncated(place));
@@ -134,7 +138,8 @@ fn read_u8(place: usize, bytes: &[u8]) -> Result<(u8, &[u8]), CborFault>
 }
 
 fn read_u16(place: usize, bytes: &[u8]) -> Result<(u16, &[u8]), CborFault>
-    ensures { Gives (λ x. (x.0, x.1.now)) result (number_at place w16 bytes.now) }
+    ensures gives { Gives (λ x. (x.0, x.1.now)) result (number_at place w16 bytes.now) }
+    ensures exact { IfErr result (λ e. (number_at place w16 bytes.now) ≡ Err e) }
 {
     if bytes.len() < 2 {
         return Err(CborFault::Truncated(place));
@@ -144,7 +149,8 @@ fn read_u16(place: usize, bytes: &[u8]) -> Result<(u16, &[u8]), CborFault>
 }
 
 fn read_u32(place: usize, bytes: &[u8]) -> Result<(u32, &[u8]), CborFault>
-    ensures { Gives (λ x. (x.0, x.1.now)) result (number_at place w32 bytes.now) }
+    ensures gives { Gives (λ x. (x.0, x.1.now)) result (number_at place w32 bytes.now) }
+    ensures exact { IfErr result (λ e. (number_at place w32 bytes.now) ≡ Err e) }
 {
     if bytes.len() < 4 {
         return Err(CborFault::Truncated(place));
@@ -157,7 +163,8 @@ fn read_u32(place: usize, bytes: &[u8]) -> Result<(u32, &[u8]), CborFault>
 }
 
 fn read_u64(place: usize, bytes: &[u8]) -> Result<(u64, &[u8]), CborFault>
-    ensures { Gives (λ x. (x.0, x.1.now)) result (number_at place w64 bytes.now) }
+    ensures gives { Gives (λ x. (x.0, x.1.now)) result (number_at place w64 bytes.now) }
+    ensures exact { IfErr result (λ e. (number_at place w64 bytes.now) ≡ Err e) }
 {
     if bytes.len() < 8 {
         return Err(CborFault::Truncated(place));

@@ -1,4 +1,4 @@
-ghost use Rattle.std.specs.Prelude.{◌≡◌, [], length, string_bytes, Err};
+ghost use Rattle.std.specs.Prelude.{◌≡◌, [], length, string_bytes, IfErr, Err};
 ghost use Rattle.cbor_core.specs.declared.head.Major.TheVariants as major;
 ghost use Rattle.cbor_core.specs.Reading.{Gives, content_at, foreign_at, chunk_in, chunk_step, open_at, breaks};
 
@@ -12,7 +12,8 @@ use std::str;
 
 /// The content of a byte string of `n` bytes.
 pub(crate) fn read_bytes(place: usize, n: u64, rest: &[u8]) -> Result<(&[u8], &[u8]), CborFault>
-    ensures { Gives (λ x. (x.0.now, x.1.now)) result (content_at place major.Bytes n rest.now) }
+    ensures gives { Gives (λ x. (x.0.now, x.1.now)) result (content_at place major.Bytes n rest.now) }
+    ensures exact { IfErr result (λ e. (content_at place major.Bytes n rest.now) ≡ Err e) }
 {
     if (rest.len() as u64) < n {
         return Err(CborFault::Truncated(place));
@@ -24,7 +25,8 @@ pub(crate) fn read_bytes(place: usize, n: u64, rest: &[u8]) -> Result<(&[u8], &[
 /// The content of a text string of `n` bytes.
 #[tactic(auto, using(crate::proofs::Utf8::is_text, crate::proofs::Utf8::is_no_text))]
 pub(crate) fn read_text(place: usize, n: u64, rest: &[u8]) -> Result<(&str, &[u8]), CborFault>
-    ensures { Gives (λ x. (x.0.now, x.1.now)) result (content_at place major.Text n rest.now) }
+    ensures gives { Gives (λ x. (x.0.now, x.1.now)) result (content_at place major.Text n rest.now) }
+    ensures exact { IfErr result (λ e. (content_at place major.Text n rest.now) ≡ Err e) }
 {
     if (rest.len() as u64) < n {
         return Err(CborFault::Truncated(place));
@@ -56,8 +58,13 @@ fn refuse_foreign(place: usize, n: u64, rest: &[u8]) -> CborFault
     }
 }
 
-fn read_byte_chunk(place: usize, head: Head, rest: &[u8]) -> Result<(&[u8], &[u8]), CborFault>
-    ensures { Gives (λ x. (x.0.now, x.1.now)) result (chunk_in place major.Bytes head rest.now) }
+pub(crate) fn read_byte_chunk(
+    place: usize,
+    head: Head,
+    rest: &[u8],
+) -> Result<(&[u8], &[u8]), CborFault>
+    ensures gives { Gives (λ x. (x.0.now, x.1.now)) result (chunk_in place major.Bytes head rest.now) }
+    ensures exact { IfErr result (λ e. (chunk_in place major.Bytes head rest.now) ≡ Err e) }
 {
     match head {
         Head::Sized(Major::Bytes, n, _) => read_bytes(place, n, rest),
@@ -66,8 +73,13 @@ fn read_byte_chunk(place: usize, head: Head, rest: &[u8]) -> Result<(&[u8], &[u8
     }
 }
 
-fn read_text_chunk(place: usize, head: Head, rest: &[u8]) -> Result<(&str, &[u8]), CborFault>
-    ensures { Gives (λ x. (x.0.now, x.1.now)) result (chunk_in place major.Text head rest.now) }
+pub(crate) fn read_text_chunk(
+    place: usize,
+    head: Head,
+    rest: &[u8],
+) -> Result<(&str, &[u8]), CborFault>
+    ensures gives { Gives (λ x. (x.0.now, x.1.now)) result (chunk_in place major.Text head rest.now) }
+    ensures exact { IfErr result (λ e. (chunk_in place major.Text head rest.now) ≡ Err e) }
 {
     match head {
         Head::Sized(Major::Text, n, _) => read_text(place, n, rest),

@@ -6,7 +6,7 @@ use Rattle.cbor_core.proofs.read.+reading.Goals as goal
 
 pub read_item-returns-else-levels-eq0 : goal.read_item-returns-else-levels-eq0
 read_item-returns-else-levels-eq0 t c = rw (item_deeper c.args.strict c.args.total c.args.levels c.saturating_sub-place.result c.args.bytes.now c.in_ok-head.head c.in_ok-head.rest.now
-    c.if-levels-eq0.false c.saturating_sub-place.ensures c.in_ok-head.ensures) c.read_content.ensures
+    c.if-levels-eq0.false c.saturating_sub-place.ensures c.in_ok-head.ensures.gives) c.read_content.ensures
 
 pub read_items-returns-in-Err : goal.read_items-returns-in-Err
 read_items-returns-in-Err t c = row_fails (item_step (item_at c.args.strict c.args.total c.args.levels)) c.in-Err.fault c.args.n c.loop-turn._turn c.loop-turn.items c.loop-turn.rest.now _
