@@ -32,7 +32,7 @@ module _ {S : Type 0} (Steps : S → Packet → Answer → S → Type 0) (GivesU
       first_lines first (packet ∷ rest) (subst AllLinePackets apart input.1),
       input.0 ∙ ap (flat_map packet_line) apart ∙ flat_map-append packet_line first (packet ∷ rest),
       run,
-      inr (packet, leaves),
+      inr (packet, flat_map packet_line rest, refl, leaves),
       (wrote, same),
     )
 

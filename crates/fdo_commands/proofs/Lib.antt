@@ -5,3 +5,4 @@ pub mod AnswersMore
 pub mod TookMore
 pub mod EndingMore
 pub mod RvCounts
+pub mod OneInput

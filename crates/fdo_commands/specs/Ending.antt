@@ -40,6 +40,10 @@ Wrote written faults written' faults' text = (written' ≡ grown written text) �
 abbrev pub Answered : {S : Type 0} → (S → Packet → Answer → S → Type 0) → S → S → List ℕ → List Packet → List Answer → Type 0
 Answered Steps s t bytes packets answers = IsInput bytes packets × Runs Steps s packets answers t
 
+-- memory ran out at the first message of these lines
+abbrev pub GivesUpAt : {S : Type 0} → (S → Packet → Answer → S → Type 0) → (S → Packet → S → Type 0) → S → List ℕ → S → Type 0
+GivesUpAt Steps GivesUp s lines t = (packet : Packet) × (more : List ℕ) × (lines ≡ packet_line packet ++ more) × Leaves Steps GivesUp s packet t
+
 -- what a command does with the bytes of its input
 abbrev pub AnswersBytes : {S : Type 0} → (S → Packet → Answer → S → Type 0) → (S → Packet → S → Type 0) → S → S → List ℕ → Option (List ℕ) → ℕ → Option (List ℕ) → ℕ → Status → Type 0
 -- all messages are answered, and no object of the outside failed
@@ -60,7 +64,7 @@ AnswersBytes Steps GivesUp s t bytes written faults written' faults' status.Writ
 -- memory runs out behind the answers of the first messages
 AnswersBytes {S} Steps GivesUp s t bytes written faults written' faults' status.NoMemory =
     (packets : List Packet) × (answers : List Answer) × (rest : List ℕ) × (next : S) × AllLinePackets packets × (bytes ≡ flat_map packet_line packets ++ rest)
-    × Runs Steps s packets answers next × ((t ≡ next) ⊎ ((packet : Packet) × Leaves Steps GivesUp next packet t))
+    × Runs Steps s packets answers next × ((t ≡ next) ⊎ GivesUpAt Steps GivesUp next rest t)
     × Wrote written faults written' faults' (answers_text answers)
 AnswersBytes Steps GivesUp s t bytes written faults written' faults' _ = ⊥
 

@@ -5,6 +5,7 @@ mod answers;
 pub mod command;
 mod fault_line;
 mod input;
+pub mod laws;
 mod line;
 mod lines;
 pub mod status;
