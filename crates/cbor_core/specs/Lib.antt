@@ -1,3 +1,4 @@
+pub mod Counting
 pub mod Deterministic
 pub mod Head
 pub mod Keys

@@ -1,10 +1,12 @@
 ghost use Rattle.std.specs.Prelude.{◌≡◌, ℕ, ◌+◌, ◌-◌, ◌<◌, ◌++◌, min, List, [], take, length, IfOk, IfErr, IsNone, IsSomeAnd, Some, None, nat_lt, if◌then◌else◌, true, false, Ok};
 ghost use Rattle.std.specs.Option.{option_copied};
+ghost use Rattle.cbor_core.specs.Counting.{count_in};
 ghost use Rattle.cbor_core.specs.declared.item.Item.{Item, out-Item};
 ghost use Rattle.cbor_core.specs.Reading.{Fails, first_item, breaks};
 ghost use Rattle.cbor_core.specs.Spelling.{SpellsWithin, code};
 ghost use Rattle.cbor_core.specs.Parts.{Stands, Next, entry_of, Inside, major_in, number_in, head_major, head_number, ContentOf, content_in};
 
+use crate::counting::find_count;
 use crate::fault::CborFault;
 use crate::head::{Head, Major};
 use crate::item::Item;
@@ -75,6 +77,21 @@ impl<'a> Cursor<'a> {
     {
         match read_head(0, self.tail) {
             Ok((head, _rest)) => find_number(head),
+            Err(_) => None,
+        }
+    }
+
+    /// How many elements or pairs an array or a map has.
+    pub fn count(&self) -> Option<u64>
+        ensures { (input : List ℕ) (x : Item) (text : List ℕ) (later : List Item) → Stands self.now input x text later → result ≡ count_in (out-Item x) }
+    {
+        match read_head(0, self.tail) {
+            Ok((head, rest)) => find_count(
+                self.tail.len(),
+                self.levels.saturating_sub(1),
+                head,
+                rest,
+            ),
             Err(_) => None,
         }
     }

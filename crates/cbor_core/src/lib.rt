@@ -3,6 +3,7 @@
 
 pub mod blob;
 mod copy;
+mod counting;
 pub mod cursor;
 pub mod fault;
 pub mod head;

@@ -221,7 +221,7 @@ fn pass_open_keyed(total: usize, levels: u8, bytes: &[u8]) -> Result<&[u8], Cbor
 
 /// A key and its value.
 #[cycle(passing)]
-fn pass_two(total: usize, levels: u8, bytes: &[u8]) -> Result<&[u8], CborFault>
+pub(crate) fn pass_two(total: usize, levels: u8, bytes: &[u8]) -> Result<&[u8], CborFault>
     ensures gives { Gives (λ rest. (tt, rest.now)) result (pass_pair (pass_at false total levels) tt bytes.now) }
     ensures exact { IfErr result (λ e. (pass_pair (pass_at false total levels) tt bytes.now) ≡ Err e) }
 {
