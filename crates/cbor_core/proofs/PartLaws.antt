@@ -382,7 +382,7 @@ number_is c input x text later s head rest reads = (same_head c input x text lat
 pub of_head : (P : Head × List ℕ → Type 0) (tail : List ℕ) (x y : Head × List ℕ) → head_at 0 tail ≡ Ok x → head_at 0 tail ≡ Ok y → P x → P y
 of_head P tail x y a b h = subst P (ok_is x y (sym a ∙ b)) h
 
-front_content : (b after : List ℕ) → cond (ltb (length (b ++ after)) (length b)) None (Some (take (length b) (b ++ after))) ≡ Some b
+pub front_content : (b after : List ℕ) → cond (ltb (length (b ++ after)) (length b)) None (Some (take (length b) (b ++ after))) ≡ Some b
 front_content b after = rw (le-ltb (length (b ++ after)) (length b) (omega (arith, length-append b after)), take_at b after (length b) refl) refl
 
 pub string_head : (m : Major) (b text after : List ℕ) (h : IsString false m b text) → head_at 0 (text ++ after) ≡ Ok (heads.Sized m (length b) (is_shortest h.has_head.form (length b)), b ++ after)

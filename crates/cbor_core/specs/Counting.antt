@@ -1,4 +1,4 @@
--- How many elements or pairs an array or a map has, and the chunks of a string.
+-- How many elements or pairs an array or a map has.
 use Rattle.std.specs.Prelude.{◌≡◌, ℕ, ◌+◌, List, length, false, Option, Some, None, Ok}
 use Rattle.cbor_core.specs.declared.item.Item.{Item}
 use Rattle.cbor_core.specs.declared.item.Item.TheOpen.{Item-F}

@@ -1,3 +1,4 @@
+pub mod Chunks
 pub mod Counting
 pub mod Deterministic
 pub mod Head

@@ -2,6 +2,7 @@
 #![tactic(auto)]
 
 pub mod blob;
+mod chunks;
 mod copy;
 mod counting;
 pub mod cursor;
