@@ -7,10 +7,11 @@ MIB = 1 << 20
 
 
 def head(major, n):
-    for info, low, width in ((None, 24, 0), (24, 1 << 8, 1), (25, 1 << 16, 2), (26, 1 << 32, 4)):
-        if n < low:
-            return bytes([32 * major + (n if info is None else info)]) + n.to_bytes(width, "big")
-    return bytes([32 * major + 27]) + n.to_bytes(8, "big")
+    if n < 24:
+        return bytes([32 * major + n])
+    for info, width in ((24, 1), (25, 2), (26, 4), (27, 8)):
+        if n < 1 << 8 * width:
+            return bytes([32 * major + info]) + n.to_bytes(width, "big")
 
 
 def mapping(keys):
