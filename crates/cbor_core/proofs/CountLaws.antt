@@ -17,7 +17,8 @@ use Rattle.cbor_core.proofs.Bytes.{bind_ok}
 use Rattle.cbor_core.proofs.Heads.{break_is, no_break, open_again, simple_again}
 use Rattle.cbor_core.proofs.Again.{err_not_ok}
 use Rattle.cbor_core.proofs.RowLaws as rows
-use Rattle.cbor_core.proofs.PartLaws.{end_reads, of_head, string_head, chunked_head, head_reads, row_count, pair_count}
+use Rattle.cbor_core.proofs.PartLaws.{end_reads, of_head, string_head, chunked_head, head_reads}
+use Rattle.cbor_core.proofs.Lengths.{row_count, pair_count}
 
 pass_starts : (total levels : ℕ) (rest : List ℕ) (x : Unit {0} × List ℕ) → pass_at false total levels (255 ∷ rest) ≡ Ok x → ⊥
 unfolding pass_at

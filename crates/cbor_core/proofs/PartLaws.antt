@@ -22,8 +22,9 @@ use Rattle.cbor_core.specs.Spelling.{code, is_shortest, IsHead, SpellsRow, IsPai
 use Rattle.cbor_core.specs.Parts.{inner_in, inner, entry_of, head_major, head_number, major_in, number_in, content_in, StringContent, ContentOf, Ends, Stands, Next, Inside}
 use Rattle.cbor_core.proofs.Bytes.{IsBytes, ok_is}
 use Rattle.cbor_core.proofs.Heads.{head_again, open_again, simple_again, no_break}
-use Rattle.cbor_core.proofs.Again.{item_again, item_starts, item_some, err_not_ok}
+use Rattle.cbor_core.proofs.Again.{item_again, item_starts, err_not_ok}
 use Rattle.cbor_core.proofs.Passes.{Passes, item_passes}
+use Rattle.cbor_core.proofs.Lengths.{row_count}
 use Rattle.cbor_core.proofs.Readings.{first_found}
 
 -- ---- the end of an item
@@ -207,21 +208,6 @@ paired spells before any (p ∷ ps) row h = (
 doubled : (ps : List (Item × Item)) → length (flat_map (λ p. p.0 ∷ p.1 ∷ []) ps) ≡ length ps * 2
 doubled [] = refl
 doubled (p ∷ ps) = omega (arith, doubled ps)
-
-long_one : (levels : ℕ) (x : Item) (text : List ℕ) → SpellsWithin false levels x text → 1 ≤ length text
-long_one levels x [] h = absurd (item_some false 0 levels (x, []) (item_again false 0 levels x [] [] h))
-long_one levels x (b ∷ text) h = omega arith
-
-pub row_count : (levels : ℕ) (any xs : List Item) (row : List ℕ) → SpellsRow (λ before. SpellsWithin false levels) any xs row → length xs ≤ length row
-unfolding SpellsRow
-row_count levels any [] row h = omega arith
-row_count levels any (x ∷ xs) row h = omega (arith, row_count levels (any ++ x ∷ []) xs h.1 h.3, long_one levels x h.0 h.2, ap length h.4, length-append h.0 h.1)
-
-pub pair_count : (levels : ℕ) (before ps : List (Item × Item)) (row : List ℕ) → SpellsRow (IsPair false (SpellsWithin false levels)) before ps row → length ps ≤ length row
-unfolding SpellsRow
-pair_count levels before [] row h = omega arith
-pair_count levels before (p ∷ ps) row h =
-    omega (arith, pair_count levels (before ++ p ∷ []) ps h.1 h.3, long_one levels p.0 h.2.key h.2.has_key, ap length h.2.bytes, length-append h.2.key h.2.value, ap length h.4, length-append h.0 h.1)
 
 one_row : (levels : ℕ) (x : Item) (text : List ℕ) → SpellsWithin false levels x text → SpellsRow (λ before. SpellsWithin false levels) [] (x ∷ []) text
 unfolding SpellsRow
