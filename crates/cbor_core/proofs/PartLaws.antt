@@ -22,8 +22,9 @@ use Rattle.cbor_core.specs.Spelling.{code, is_shortest, IsHead, SpellsRow, IsPai
 use Rattle.cbor_core.specs.Parts.{inner_in, inner, entry_of, head_major, head_number, major_in, number_in, content_in, StringContent, ContentOf, Ends, Stands, Next, Inside}
 use Rattle.cbor_core.proofs.Bytes.{IsBytes, ok_is}
 use Rattle.cbor_core.proofs.Heads.{head_again, open_again, simple_again, no_break}
-use Rattle.cbor_core.proofs.Again.{item_again, item_starts, item_some, err_not_ok}
+use Rattle.cbor_core.proofs.Again.{item_again, item_starts, err_not_ok}
 use Rattle.cbor_core.proofs.Passes.{Passes, item_passes}
+use Rattle.cbor_core.proofs.Lengths.{row_count}
 use Rattle.cbor_core.proofs.Readings.{first_found}
 
 -- ---- the end of an item
@@ -208,20 +209,11 @@ doubled : (ps : List (Item × Item)) → length (flat_map (λ p. p.0 ∷ p.1 ∷
 doubled [] = refl
 doubled (p ∷ ps) = omega (arith, doubled ps)
 
-long_one : (levels : ℕ) (x : Item) (text : List ℕ) → SpellsWithin false levels x text → 1 ≤ length text
-long_one levels x [] h = absurd (item_some false 0 levels (x, []) (item_again false 0 levels x [] [] h))
-long_one levels x (b ∷ text) h = omega arith
-
-row_count : (levels : ℕ) (any xs : List Item) (row : List ℕ) → SpellsRow (λ before. SpellsWithin false levels) any xs row → length xs ≤ length row
-unfolding SpellsRow
-row_count levels any [] row h = omega arith
-row_count levels any (x ∷ xs) row h = omega (arith, row_count levels (any ++ x ∷ []) xs h.1 h.3, long_one levels x h.0 h.2, ap length h.4, length-append h.0 h.1)
-
 one_row : (levels : ℕ) (x : Item) (text : List ℕ) → SpellsWithin false levels x text → SpellsRow (λ before. SpellsWithin false levels) [] (x ∷ []) text
 unfolding SpellsRow
 one_row levels x text h = (text, [], h, refl, sym (append-nil text))
 
-head_reads : (m : Major) (n : ℕ) (head mid : List ℕ) (h : IsHead false m n head) (place : ℕ) → head_at place (head ++ mid) ≡ Ok (heads.Sized m n (is_shortest h.form n), mid)
+pub head_reads : (m : Major) (n : ℕ) (head mid : List ℕ) (h : IsHead false m n head) (place : ℕ) → head_at place (head ++ mid) ≡ Ok (heads.Sized m n (is_shortest h.form n), mid)
 head_reads m n head mid h place = ap (λ t. head_at place (t ++ mid)) h.bytes ∙ head_again place m h.form n mid h.fits
 
 sized_enters : (levels : ℕ) (f : Item-F Item) (m : Major) (n : ℕ) (head mid tail : List ℕ) (h : IsHead false m n head) → tail ≡ head ++ mid
@@ -373,16 +365,16 @@ number_is c input x text later s head rest reads = (same_head c input x text lat
 -- ---- contents
 
 -- what holds of a head and what is behind it holds of what was read
-of_head : (P : Head × List ℕ → Type 0) (tail : List ℕ) (x y : Head × List ℕ) → head_at 0 tail ≡ Ok x → head_at 0 tail ≡ Ok y → P x → P y
+pub of_head : (P : Head × List ℕ → Type 0) (tail : List ℕ) (x y : Head × List ℕ) → head_at 0 tail ≡ Ok x → head_at 0 tail ≡ Ok y → P x → P y
 of_head P tail x y a b h = subst P (ok_is x y (sym a ∙ b)) h
 
-front_content : (b after : List ℕ) → cond (ltb (length (b ++ after)) (length b)) None (Some (take (length b) (b ++ after))) ≡ Some b
+pub front_content : (b after : List ℕ) → cond (ltb (length (b ++ after)) (length b)) None (Some (take (length b) (b ++ after))) ≡ Some b
 front_content b after = rw (le-ltb (length (b ++ after)) (length b) (omega (arith, length-append b after)), take_at b after (length b) refl) refl
 
-string_head : (m : Major) (b text after : List ℕ) (h : IsString false m b text) → head_at 0 (text ++ after) ≡ Ok (heads.Sized m (length b) (is_shortest h.has_head.form (length b)), b ++ after)
+pub string_head : (m : Major) (b text after : List ℕ) (h : IsString false m b text) → head_at 0 (text ++ after) ≡ Ok (heads.Sized m (length b) (is_shortest h.has_head.form (length b)), b ++ after)
 string_head m b text after h = ap (λ t. head_at 0 (t ++ after)) h.bytes ∙ ap (head_at 0) (append_assoc h.head b after) ∙ head_reads m (length b) h.head (b ++ after) h.has_head 0
 
-chunked_head : (m : Major) (b text after : List ℕ) (h : IsChunked false m b text) → head_at 0 (text ++ after) ≡ Ok (heads.Open m, (h.has_chunks.row ++ 255 ∷ []) ++ after)
+pub chunked_head : (m : Major) (b text after : List ℕ) (h : IsChunked false m b text) → head_at 0 (text ++ after) ≡ Ok (heads.Open m, (h.has_chunks.row ++ 255 ∷ []) ++ after)
 chunked_head m b text after h = ap (λ t. head_at 0 (t ++ after)) h.has_chunks.bytes ∙ open_again 0 m ((h.has_chunks.row ++ 255 ∷ []) ++ after)
 
 layer_content : (spells : Item → List ℕ → Type 0) (f : Item-F Item) (text after : List ℕ) (y : Head × List ℕ) → SpellsLayer false spells f text → head_at 0 (text ++ after) ≡ Ok y → ContentOf f text (content_in y.0 y.1)

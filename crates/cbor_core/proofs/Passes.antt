@@ -65,7 +65,7 @@ content_passes false place m n rest = go (ltb (length rest) n) (is_content m (ta
     go false true = refl
     go false false = λ t. absurd cc
 
-chunk_passes : (c : Bool) (total : ℕ) (m : Major) (front bytes : List ℕ) → Passes c (pass_chunk total m tt bytes) (chunk_step total m front bytes)
+pub chunk_passes : (c : Bool) (total : ℕ) (m : Major) (front bytes : List ℕ) → Passes c (pass_chunk total m tt bytes) (chunk_step total m front bytes)
 unfolding pass_chunk chunk_step
 chunk_passes c total m front bytes =
     both c (head_at (total - length bytes) bytes) (λ h. chunk_in (total - length bytes) m h.0 h.1 >>= λ k. Ok (tt, k.1)) (λ h. chunk_in (total - length bytes) m h.0 h.1 >>= λ k. Ok (front ++ k.0, k.1))

@@ -1,6 +1,6 @@
 -- The item at the front of an input.
-use Rattle.std.proofs.Common.{◌≡◌, ℕ, ◌+◌, ◌-◌, ◌≤◌, Bool, true, false, List, [], ◌++◌, ◌↔◌, length, take, drop, Result, Ok, Err, refl, sym, ap, subst, ◌∙◌, arith, IfOk}
-use Rattle.std.proofs.lemmas.List.{length-append, length-drop, take-append-drop, take_at}
+use Rattle.std.proofs.Common.{◌≡◌, ℕ, ◌+◌, ◌-◌, ◌^◌, ◌<◌, ◌≤◌, Bool, true, false, List, [], ◌++◌, ◌↔◌, length, take, drop, Result, Ok, Err, refl, sym, ap, subst, ◌∙◌, arith, IfOk}
+use Rattle.std.proofs.lemmas.List.{length-append, length-take, length-drop, take-append-drop, take_at}
 use Rattle.cbor_core.specs.declared.fault.CborFault.{CborFault}
 use Rattle.cbor_core.specs.declared.item.Item.{Item}
 use Rattle.cbor_core.specs.Deterministic.{det}
@@ -13,6 +13,7 @@ use Rattle.cbor_core.proofs.Again.{item_again}
 use Rattle.cbor_core.proofs.Strict.{strict_det}
 use Rattle.cbor_core.proofs.Fits.{fit_spells}
 use Rattle.cbor_core.proofs.Loose.{loosely}
+use Rattle.cbor_core.proofs.SpelledFits.{spelled_fit}
 
 abbrev pub IsSpelled : Bool → List ℕ → Item × ℕ → Type 0
 IsSpelled strict bytes x = (x.1 ≤ length bytes) × SpellsWithin strict 16 x.0 (take x.1 bytes)
@@ -75,3 +76,14 @@ equal_norms x y fx fy =
       λ e. (one_reading true (norm x) (norm y) (det x) (det y) [] [] hx hy (ap (λ t. t ++ []) e)).0,
       λ e. (strict_det 16 (norm x) (det x) hx).text_is ∙ ap det e ∙ sym (strict_det 16 (norm y) (det y) hy).text_is,
     )
+
+pub is_fit : (strict : Bool) (bytes : List ℕ) (r : Result (Item × ℕ) CborFault) → IsBytes bytes → length bytes < 2 ^ 64 → Gives (λ x. (x.0, x.1)) r (first_item strict bytes) → IfOk r (λ x. IsFit x.0)
+is_fit strict bytes (Ok x) fits small e =
+    let h = first_found strict bytes x fits e in
+    let few : length (take x.1 bytes) < 2 ^ 64 = omega (arith, length-take x.1 bytes) in
+    spelled_fit 16 x.0 (take x.1 bytes) few (either strict x.0 (take x.1 bytes) h.1)
+  where
+    either : (strict : Bool) (x : Item) (text : List ℕ) → SpellsWithin strict 16 x text → SpellsWithin false 16 x text
+    either true x text h = loosely 16 x text h
+    either false x text h = h
+is_fit strict bytes (Err f) fits small e = tt

@@ -1,3 +1,5 @@
+pub mod Chunks
+pub mod Counting
 pub mod Deterministic
 pub mod Head
 pub mod Keys

@@ -154,7 +154,3 @@ SpellsWithin strict (suc levels) x text = SpellsLayer strict (SpellsWithin stric
 -- the text spells the item, at depth 1 of at most 16
 abbrev pub Spells : Item → List ℕ → Type 0
 Spells x text = SpellsWithin false 16 x text
-
--- and it does so in the core deterministic encoding
-abbrev pub SpellsStrictly : Item → List ℕ → Type 0
-SpellsStrictly x text = SpellsWithin true 16 x text

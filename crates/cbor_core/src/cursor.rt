@@ -1,10 +1,14 @@
 ghost use Rattle.std.specs.Prelude.{◌≡◌, ℕ, ◌+◌, ◌-◌, ◌<◌, ◌++◌, min, List, [], take, length, IfOk, IfErr, IsNone, IsSomeAnd, Some, None, nat_lt, if◌then◌else◌, true, false, Ok};
 ghost use Rattle.std.specs.Option.{option_copied};
+ghost use Rattle.cbor_core.specs.Chunks.{ChunkOf};
+ghost use Rattle.cbor_core.specs.Counting.{count_in};
 ghost use Rattle.cbor_core.specs.declared.item.Item.{Item, out-Item};
 ghost use Rattle.cbor_core.specs.Reading.{Fails, first_item, breaks};
 ghost use Rattle.cbor_core.specs.Spelling.{SpellsWithin, code};
 ghost use Rattle.cbor_core.specs.Parts.{Stands, Next, entry_of, Inside, major_in, number_in, head_major, head_number, ContentOf, content_in};
 
+use crate::chunks::find_chunk;
+use crate::counting::find_count;
 use crate::fault::CborFault;
 use crate::head::{Head, Major};
 use crate::item::Item;
@@ -79,12 +83,37 @@ impl<'a> Cursor<'a> {
         }
     }
 
+    /// How many elements or pairs an array or a map has.
+    pub fn count(&self) -> Option<u64>
+        ensures { (input : List ℕ) (x : Item) (text : List ℕ) (later : List Item) → Stands self.now input x text later → result ≡ count_in (out-Item x) }
+    {
+        match read_head(0, self.tail) {
+            Ok((head, rest)) => find_count(
+                self.tail.len(),
+                self.levels.saturating_sub(1),
+                head,
+                rest,
+            ),
+            Err(_) => None,
+        }
+    }
+
     /// The content of a string whose head has a definite length.
     pub fn content(&self) -> Option<&'a [u8]>
         ensures { (input : List ℕ) (x : Item) (text : List ℕ) (later : List Item) → Stands self.now input x text later → ContentOf (out-Item x) text (option_copied result) }
     {
         match read_head(0, self.tail) {
             Ok((head, rest)) => find_content(head, rest),
+            Err(_) => None,
+        }
+    }
+
+    /// The content of the chunk of a string with this index. A string of definite length is one chunk.
+    pub fn chunk(&self, index: u64) -> Option<&'a [u8]>
+        ensures { (input : List ℕ) (x : Item) (text : List ℕ) (later : List Item) → Stands self.now input x text later → ChunkOf (out-Item x) text index (option_copied result) }
+    {
+        match read_head(0, self.tail) {
+            Ok((head, rest)) => find_chunk(self.tail.len(), index, head, rest),
             Err(_) => None,
         }
     }
@@ -248,7 +277,7 @@ fn find_number(head: Head) -> Option<u64>
     }
 }
 
-fn find_content(head: Head, rest: &[u8]) -> Option<&[u8]>
+pub(crate) fn find_content(head: Head, rest: &[u8]) -> Option<&[u8]>
     ensures { option_copied result ≡ content_in head rest.now }
 {
     match head {

@@ -2,7 +2,9 @@
 #![tactic(auto)]
 
 pub mod blob;
+mod chunks;
 mod copy;
+mod counting;
 pub mod cursor;
 pub mod fault;
 pub mod head;

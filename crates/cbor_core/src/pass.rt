@@ -221,7 +221,7 @@ fn pass_open_keyed(total: usize, levels: u8, bytes: &[u8]) -> Result<&[u8], Cbor
 
 /// A key and its value.
 #[cycle(passing)]
-fn pass_two(total: usize, levels: u8, bytes: &[u8]) -> Result<&[u8], CborFault>
+pub(crate) fn pass_two(total: usize, levels: u8, bytes: &[u8]) -> Result<&[u8], CborFault>
     ensures gives { Gives (λ rest. (tt, rest.now)) result (pass_pair (pass_at false total levels) tt bytes.now) }
     ensures exact { IfErr result (λ e. (pass_pair (pass_at false total levels) tt bytes.now) ≡ Err e) }
 {
@@ -266,7 +266,7 @@ fn pass_some(place: usize, n: u64, rest: &[u8]) -> Result<&[u8], CborFault>
 }
 
 #[tactic(auto, unfolding(crate::specs::Passing::pass_chunk))]
-fn pass_byte_chunk(total: usize, bytes: &[u8]) -> Result<&[u8], CborFault>
+pub(crate) fn pass_byte_chunk(total: usize, bytes: &[u8]) -> Result<&[u8], CborFault>
     ensures gives { Gives (λ rest. (tt, rest.now)) result (pass_chunk total major.Bytes tt bytes.now) }
     ensures exact { IfErr result (λ e. (pass_chunk total major.Bytes tt bytes.now) ≡ Err e) }
 {
@@ -277,7 +277,7 @@ fn pass_byte_chunk(total: usize, bytes: &[u8]) -> Result<&[u8], CborFault>
 }
 
 #[tactic(auto, unfolding(crate::specs::Passing::pass_chunk))]
-fn pass_text_chunk(total: usize, bytes: &[u8]) -> Result<&[u8], CborFault>
+pub(crate) fn pass_text_chunk(total: usize, bytes: &[u8]) -> Result<&[u8], CborFault>
     ensures gives { Gives (λ rest. (tt, rest.now)) result (pass_chunk total major.Text tt bytes.now) }
     ensures exact { IfErr result (λ e. (pass_chunk total major.Text tt bytes.now) ≡ Err e) }
 {

@@ -29,6 +29,8 @@ pub fn read_wire(alloc: Global, bytes: &[u8]) -> Result<(Item, usize), CborFault
     ensures only { (x : Item) (n : ℕ) → n ≤ length bytes.now → Spells x (take n bytes.now) → Gives {Y = Item × ℕ} (λ y. (y.0, y.1)) result (Ok (x, n)) }
     // Which fault it is.
     ensures exact { Gives (λ x. (x.0, x.1)) result (first_item false bytes.now) }
+    // What is read is fit to be written.
+    ensures fit { IfOk result (λ x. IsFit x.0) }
 {
     read_first(alloc, false, bytes)
 }
@@ -42,6 +44,8 @@ pub fn read_det(alloc: Global, bytes: &[u8]) -> Result<(Item, usize), CborFault>
     ensures only { (x : Item) (n : ℕ) → n ≤ length bytes.now → IsFit x → take n bytes.now ≡ det x → Gives {Y = Item × ℕ} (λ y. (y.0, y.1)) result (Ok (norm x, n)) }
     // Which fault it is.
     ensures exact { Gives (λ x. (x.0, x.1)) result (first_item true bytes.now) }
+    // What is read is fit to be written.
+    ensures fit { IfOk result (λ x. IsFit x.0) }
 {
     read_first(alloc, true, bytes)
 }

@@ -55,6 +55,20 @@ fn write_items(alloc: Global, out: &mut Vec<u8>, items: &[Item]) -> Result<(), N
 fn write_map(alloc: Global, out: &mut Vec<u8>, pairs: &[(Item, Item)]) -> Result<(), NoMemory>
     ensures { OnOk result (out.new.items ≡ out.old.items ++ det_pairs (in_key_order (map (λ p. (det p.0, det p.1)) pairs.now))) }
 {
+    match pairs {
+        [(key, value)] => {
+            write_head(out, 5, 1)?;
+            write_item(alloc, out, key)?;
+            write_item(alloc, out, value)
+        }
+        _ => write_sorted(alloc, out, pairs),
+    }
+}
+
+#[cycle(write)]
+fn write_sorted(alloc: Global, out: &mut Vec<u8>, pairs: &[(Item, Item)]) -> Result<(), NoMemory>
+    ensures { OnOk result (out.new.items ≡ out.old.items ++ det_pairs (in_key_order (map (λ p. (det p.0, det p.1)) pairs.now))) }
+{
     let mut spelled = BTreeMap::new(alloc);
     for (key, value) in pairs {
         let mut front = Vec::new(alloc);

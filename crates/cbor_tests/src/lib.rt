@@ -1,0 +1,104 @@
+//! Tests of `cbor_core`, against inputs and answers from outside.
+#![tactic(auto)]
+
+#[cfg(test)]
+mod tests {
+    use cbor_core::{Cursor, read_wire, write_det};
+    use std::test::Fail;
+
+    /// What a cursor shows of an item, in one line: its place, major type, number, count, content, chunks and bytes.
+    fn shown(rt: &HostRuntime, cursor: &Cursor) -> Result<String, Fail> {
+        let alloc = rt.alloc();
+        let raw = hex::encode(alloc, cursor.raw())?;
+        let number = match cursor.number() {
+            Some(n) => n.to_string(alloc)?,
+            None => String::from_str(alloc, "-")?,
+        };
+        let count = match cursor.count() {
+            Some(n) => n.to_string(alloc)?,
+            None => String::from_str(alloc, "-")?,
+        };
+        let content = text_of(rt, cursor.content())?;
+        let first = text_of(rt, cursor.chunk(0))?;
+        let second = text_of(rt, cursor.chunk(1))?;
+        let third = text_of(rt, cursor.chunk(2))?;
+        Ok(format!(in alloc;
+            "{} {} {number} {count} {content} {first} {second} {third} {raw}",
+            cursor.at(),
+            cursor.major()
+        )?)
+    }
+
+    fn text_of(rt: &HostRuntime, bytes: Option<&[u8]>) -> Result<String, Fail> {
+        match bytes {
+            Some(bytes) => Ok(hex::encode(rt.alloc(), bytes)?),
+            None => Ok(String::from_str(rt.alloc(), "-")?),
+        }
+    }
+
+    /// The lines of an item, of the first item inside it, and of the item after that.
+    fn lines(rt: &HostRuntime, input: &str) -> Result<String, Fail> {
+        let bytes = hex::decode(rt.alloc(), input)?;
+        let Ok((cursor, taken)) = Cursor::open(rt.alloc(), bytes.as_slice()) else {
+            return Ok(String::from_str(rt.alloc(), "refused")?);
+        };
+        let whole = shown(rt, &cursor)?;
+        let (first, second) = match cursor.inside() {
+            Some(first) => match first.after() {
+                Some(second) => (shown(rt, &first)?, shown(rt, &second)?),
+                None => (shown(rt, &first)?, String::from_str(rt.alloc(), "-")?),
+            },
+            None => (
+                String::from_str(rt.alloc(), "-")?,
+                String::from_str(rt.alloc(), "-")?,
+            ),
+        };
+        Ok(format!(in rt.alloc(); "{taken}: {whole}: {first}: {second}")?)
+    }
+
+    #[test]
+    fn a_cursor_hands_out_parts(rt: HostRuntime) -> Result<(), Fail> {
+        let rows = [
+            (
+                "82021a00000001",
+                "7: 0 4 - 2 - - - - 82021a00000001: 1 0 2 - - - - - 02: 2 0 1 - - - - - 1a00000001",
+            ),
+            ("5f41014102ff", "6: 0 2 - - - 01 02 - 5f41014102ff: -: -"),
+            ("81", "refused"),
+            ("420102ff", "3: 0 2 - - 0102 0102 - - 420102: -: -"),
+            (
+                "bf0102ff",
+                "4: 0 5 - 1 - - - - bf0102ff: 1 0 1 - - - - - 01: 2 0 2 - - - - - 02",
+            ),
+            (
+                "c243010000",
+                "5: 0 6 2 - - - - - c243010000: 1 2 - - 010000 010000 - - 43010000: -",
+            ),
+            ("9fff", "2: 0 4 - 0 - - - - 9fff: -: -"),
+            ("f820", "2: 0 7 32 - - - - - f820: -: -"),
+        ];
+        for (input, answer) in rows {
+            let line = lines(&rt, input)?;
+            assert_eq!(rt; line.as_str(), answer);
+        }
+        Ok(())
+    }
+
+    #[test]
+    fn a_copy_is_written_as_the_item(rt: HostRuntime) -> Result<(), Fail> {
+        let bytes = hex::decode(rt.alloc(), "a2018202c1f6006161")?;
+        let Ok((item, taken)) = read_wire(rt.alloc(), bytes.as_slice()) else {
+            return Err(Fail::new("no answer"));
+        };
+        assert_eq!(rt; taken, 9);
+        let Ok(copy) = item.copy(rt.alloc()) else {
+            return Err(Fail::new("no answer"));
+        };
+        let Ok(blob) = write_det(rt.alloc(), &copy) else {
+            return Err(Fail::new("no answer"));
+        };
+        let text = hex::encode(rt.alloc(), blob.as_list())?;
+        assert_eq!(rt; text.as_str(), "a2006161018202c1f6");
+        Ok(())
+    }
+}
