@@ -146,7 +146,7 @@ fn read_sized(
         }
         Major::Map => {
             demand(strict, shortest, place)?;
-            let (pairs, after) = read_pairs(alloc, strict, total, levels, n, rest)?;
+            let (pairs, after) = read_map(alloc, strict, total, levels, n, rest)?;
             Ok((Item::Map(pairs), after))
         }
         Major::Tag => {
@@ -344,6 +344,49 @@ pub(crate) fn read_open_pairs(
         }
     }
     Err(CborFault::Truncated(total))
+}
+
+#[cycle(reading)]
+fn read_map(
+    alloc: Global,
+    strict: bool,
+    total: usize,
+    levels: u8,
+    n: u64,
+    bytes: &[u8],
+) -> Result<(Pairs, &[u8]), CborFault>
+    ensures { Gives (λ x. (x.0, x.1.now)) result (row_at (pair_step strict total (item_at strict total levels)) n [] bytes.now) }
+{
+    if n == 1 {
+        read_one_pair(alloc, strict, total, levels, bytes)
+    } else {
+        read_pairs(alloc, strict, total, levels, n, bytes)
+    }
+}
+
+/// The pair of a map that has one, whose key is compared with none.
+#[cycle(reading)]
+#[tactic(auto, using(crate::proofs::Singles::one_pair, crate::proofs::Singles::no_key, crate::proofs::Singles::no_value))]
+fn read_one_pair(
+    alloc: Global,
+    strict: bool,
+    total: usize,
+    levels: u8,
+    bytes: &[u8],
+) -> Result<(Pairs, &[u8]), CborFault>
+    ensures { Gives (λ x. (x.0, x.1.now)) result (row_at (pair_step strict total (item_at strict total levels)) 1 [] bytes.now) }
+{
+    match read_item(alloc, strict, total, levels, bytes) {
+        Ok((key, rest)) => match read_item(alloc, strict, total, levels, rest) {
+            Ok((value, after)) => {
+                let mut pairs = Pairs::new(alloc);
+                pairs.push((key, value))?;
+                Ok((pairs, after))
+            }
+            Err(fault) => Err(fault),
+        },
+        Err(fault) => Err(fault),
+    }
 }
 
 /// Reads a key and its value and puts them behind those read before, whose keys' spellings are `keys`.

@@ -16,7 +16,7 @@ pub fn write_det(alloc: Global, item: &Item) -> Result<Blob, NoMemory>
     // An item that is fit to be written is read back, its maps' pairs in order, whatever follows.
     ensures back { IsFit item.now → IfOk result (λ blob. IsReadBack item.now blob) }
 {
-    let mut out = Vec::new(alloc);
+    let mut out = Vec::with_capacity(alloc, 64)?;
     write_item(alloc, &mut out, item)?;
     Ok(Blob::new(out))
 }
