@@ -23,7 +23,8 @@ pub(crate) fn answer_all<H: Handler, O: Sink>(
     output: &mut O,
 ) -> Result<bool, Stop>
     requires { H.ready handler.old }
-    ensures answers { AnswersAll H.Steps H.GivesUp (H.state handler.old) packets.now (H.state handler.new) (O.Channel.written output.old) (O.Channel.written output.new) result }
+    ensures answers { AnswersAll H.Steps H.GivesUp (H.state handler.old) packets.now (H.state handler.new)
+        (O.Channel.written output.old) (O.Channel.written output.new) result }
     ensures faults { StopCounts (O.Channel.write_faults output.old) (O.Channel.write_faults output.new) result }
     ensures ready { H.ready handler.new }
     ensures objects { H.objects handler.new ≡ H.objects handler.old }
@@ -54,7 +55,8 @@ fn answer_one<H: Handler, O: Sink>(
     output: &mut O,
 ) -> Result<bool, Stop>
     requires { H.ready handler.old }
-    ensures answer { AnswersOne H.Steps H.GivesUp (H.state handler.old) packet.now (H.state handler.new) (O.Channel.written output.old) (O.Channel.written output.new) result }
+    ensures answer { AnswersOne H.Steps H.GivesUp (H.state handler.old) packet.now (H.state handler.new)
+        (O.Channel.written output.old) (O.Channel.written output.new) result }
     ensures faults { StopCounts (O.Channel.write_faults output.old) (O.Channel.write_faults output.new) result }
     ensures ready { H.ready handler.new }
     ensures objects { H.objects handler.new ≡ H.objects handler.old }

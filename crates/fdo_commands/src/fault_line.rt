@@ -8,7 +8,8 @@ use itoa::Buffer;
 /// Writes the last line of a command that ended with a fault. Where the output fails, the line lacks something at
 /// its end, and the status of the command stays.
 pub(crate) fn end_with<O: Sink>(output: &mut O, line: &[u8])
-    ensures line { EndsWith (O.Channel.written output.old) (O.Channel.write_faults output.old) (O.Channel.written output.new) (O.Channel.write_faults output.new) line.now }
+    ensures line { EndsWith (O.Channel.written output.old) (O.Channel.write_faults output.old)
+        (O.Channel.written output.new) (O.Channel.write_faults output.new) line.now }
     ensures same_left { O.Channel.left output.new ≡ O.Channel.left output.old }
     ensures same_read_faults { O.Channel.read_faults output.new ≡ O.Channel.read_faults output.old }
 {
@@ -17,7 +18,8 @@ pub(crate) fn end_with<O: Sink>(output: &mut O, line: &[u8])
 
 /// The same for an input that is not of the command's form, at this byte.
 pub(crate) fn end_with_place<O: Sink>(output: &mut O, place: usize)
-    ensures line { EndsWith (O.Channel.written output.old) (O.Channel.write_faults output.old) (O.Channel.written output.new) (O.Channel.write_faults output.new) (wrong_input place) }
+    ensures line { EndsWith (O.Channel.written output.old) (O.Channel.write_faults output.old)
+        (O.Channel.written output.new) (O.Channel.write_faults output.new) (wrong_input place) }
     ensures same_left { O.Channel.left output.new ≡ O.Channel.left output.old }
     ensures same_read_faults { O.Channel.read_faults output.new ≡ O.Channel.read_faults output.old }
 {

@@ -19,8 +19,10 @@ pub(crate) fn step<H: Handler, I: Source, O: Sink>(
 ) -> Status
     requires { H.ready handler.old }
     ensures ends { Ends H.Steps H.GivesUp (H.state handler.old) (H.state handler.new)
-        (streams (I.Channel.left input.old) (I.Channel.read_faults input.old) (O.Channel.written output.old) (O.Channel.write_faults output.old))
-        (streams (I.Channel.left input.new) (I.Channel.read_faults input.new) (O.Channel.written output.new) (O.Channel.write_faults output.new)) result }
+        (streams (I.Channel.left input.old) (I.Channel.read_faults input.old)
+        (O.Channel.written output.old) (O.Channel.write_faults output.old))
+        (streams (I.Channel.left input.new) (I.Channel.read_faults input.new)
+        (O.Channel.written output.new) (O.Channel.write_faults output.new)) result }
     ensures ready { H.ready handler.new }
     ensures objects { H.objects handler.new ≡ H.objects handler.old }
     ensures input_written { I.Channel.written input.new ≡ I.Channel.written input.old }
@@ -51,7 +53,8 @@ fn answer_bytes<H: Handler, O: Sink>(
 ) -> Status
     requires { H.ready handler.old }
     ensures answers { AnswersBytes H.Steps H.GivesUp (H.state handler.old) (H.state handler.new) bytes.now
-        (O.Channel.written output.old) (O.Channel.write_faults output.old) (O.Channel.written output.new) (O.Channel.write_faults output.new) result }
+        (O.Channel.written output.old) (O.Channel.write_faults output.old)
+        (O.Channel.written output.new) (O.Channel.write_faults output.new) result }
     ensures ready { H.ready handler.new }
     ensures objects { H.objects handler.new ≡ H.objects handler.old }
     ensures same_left { O.Channel.left output.new ≡ O.Channel.left output.old }

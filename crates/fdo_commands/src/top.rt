@@ -24,12 +24,22 @@ pub fn fdo<I: Source, O: Sink, N: Random>(
 ) -> Status
     ensures words { (result ≡ status.Words) ↔ ((command : Command) → Names words.now command → ⊥) }
     ensures none { result ≡ status.Words → RanNone
-        (outside (I.Channel.left input.old) (I.Channel.read_faults input.old) (O.Channel.written output.old) (O.Channel.write_faults output.old) (N.draws random.old) (N.faults random.old))
-        (outside (I.Channel.left input.new) (I.Channel.read_faults input.new) (O.Channel.written output.new) (O.Channel.write_faults output.new) (N.draws random.new) (N.faults random.new)) }
+        (outside (I.Channel.left input.old) (I.Channel.read_faults input.old)
+        (O.Channel.written output.old) (O.Channel.write_faults output.old)
+        (N.draws random.old) (N.faults random.old))
+        (outside (I.Channel.left input.new) (I.Channel.read_faults input.new)
+        (O.Channel.written output.new) (O.Channel.write_faults output.new)
+        (N.draws random.new) (N.faults random.new)) }
     ensures ran { (command : Command) → Names words.now command → Ran command
-        (outside (I.Channel.left input.old) (I.Channel.read_faults input.old) (O.Channel.written output.old) (O.Channel.write_faults output.old) (N.draws random.old) (N.faults random.old))
-        (outside (I.Channel.left input.new) (I.Channel.read_faults input.new) (O.Channel.written output.new) (O.Channel.write_faults output.new) (N.draws random.new) (N.faults random.new)) result }
-    ensures done { result ≡ status.Done → (N.faults random.new ≡ N.faults random.old) × (I.Channel.read_faults input.new ≡ I.Channel.read_faults input.old) × (O.Channel.write_faults output.new ≡ O.Channel.write_faults output.old) }
+        (outside (I.Channel.left input.old) (I.Channel.read_faults input.old)
+        (O.Channel.written output.old) (O.Channel.write_faults output.old)
+        (N.draws random.old) (N.faults random.old))
+        (outside (I.Channel.left input.new) (I.Channel.read_faults input.new)
+        (O.Channel.written output.new) (O.Channel.write_faults output.new)
+        (N.draws random.new) (N.faults random.new)) result }
+    ensures done { result ≡ status.Done → (N.faults random.new ≡ N.faults random.old)
+        × (I.Channel.read_faults input.new ≡ I.Channel.read_faults input.old)
+        × (O.Channel.write_faults output.new ≡ O.Channel.write_faults output.old) }
     ensures read { result ≡ status.Read → Rises (I.Channel.read_faults input.old) (I.Channel.read_faults input.new) }
     ensures write { result ≡ status.Write → Rises (O.Channel.write_faults output.old) (O.Channel.write_faults output.new) }
     ensures random_failed { result ≡ status.Random → Rises (N.faults random.old) (N.faults random.new) }
@@ -59,10 +69,16 @@ fn step_rendezvous<I: Source, O: Sink, N: Random>(
     output: &mut O,
     random: &mut N,
 ) -> Status
-    ensures ends { Ends RvStep RvGivesUp (record { random = drawn (N.draws random.old) (N.faults random.old) }) (record { random = drawn (N.draws random.new) (N.faults random.new) })
-        (streams (I.Channel.left input.old) (I.Channel.read_faults input.old) (O.Channel.written output.old) (O.Channel.write_faults output.old))
-        (streams (I.Channel.left input.new) (I.Channel.read_faults input.new) (O.Channel.written output.new) (O.Channel.write_faults output.new)) result }
-    ensures done { result ≡ status.Done → (N.faults random.new ≡ N.faults random.old) × (I.Channel.read_faults input.new ≡ I.Channel.read_faults input.old) × (O.Channel.write_faults output.new ≡ O.Channel.write_faults output.old) }
+    ensures ends { Ends RvStep RvGivesUp
+        (record { random = drawn (N.draws random.old) (N.faults random.old) })
+        (record { random = drawn (N.draws random.new) (N.faults random.new) })
+        (streams (I.Channel.left input.old) (I.Channel.read_faults input.old)
+        (O.Channel.written output.old) (O.Channel.write_faults output.old))
+        (streams (I.Channel.left input.new) (I.Channel.read_faults input.new)
+        (O.Channel.written output.new) (O.Channel.write_faults output.new)) result }
+    ensures done { result ≡ status.Done → (N.faults random.new ≡ N.faults random.old)
+        × (I.Channel.read_faults input.new ≡ I.Channel.read_faults input.old)
+        × (O.Channel.write_faults output.new ≡ O.Channel.write_faults output.old) }
     ensures read { result ≡ status.Read → Rises (I.Channel.read_faults input.old) (I.Channel.read_faults input.new) }
     ensures write { result ≡ status.Write → Rises (O.Channel.write_faults output.old) (O.Channel.write_faults output.new) }
     ensures random_failed { result ≡ status.Random → Rises (N.faults random.old) (N.faults random.new) }
@@ -93,11 +109,17 @@ fn step_handler<I: Source, O: Sink, N: Random>(
     input: &mut I,
     output: &mut O,
 ) -> Status
-    ensures ends { Ends RvStep RvGivesUp (record { random = drawn (N.draws handler.old.random.now) (N.faults handler.old.random.now) }) (record { random = drawn (N.draws handler.new.random.now) (N.faults handler.new.random.now) })
-        (streams (I.Channel.left input.old) (I.Channel.read_faults input.old) (O.Channel.written output.old) (O.Channel.write_faults output.old))
-        (streams (I.Channel.left input.new) (I.Channel.read_faults input.new) (O.Channel.written output.new) (O.Channel.write_faults output.new)) result }
+    ensures ends { Ends RvStep RvGivesUp
+        (record { random = drawn (N.draws handler.old.random.now) (N.faults handler.old.random.now) })
+        (record { random = drawn (N.draws handler.new.random.now) (N.faults handler.new.random.now) })
+        (streams (I.Channel.left input.old) (I.Channel.read_faults input.old)
+        (O.Channel.written output.old) (O.Channel.write_faults output.old))
+        (streams (I.Channel.left input.new) (I.Channel.read_faults input.new)
+        (O.Channel.written output.new) (O.Channel.write_faults output.new)) result }
     ensures same_random { handler.new.random.ghost_name ≡ handler.old.random.ghost_name }
-    ensures done { result ≡ status.Done → (N.faults handler.new.random.now ≡ N.faults handler.old.random.now) × (I.Channel.read_faults input.new ≡ I.Channel.read_faults input.old) × (O.Channel.write_faults output.new ≡ O.Channel.write_faults output.old) }
+    ensures done { result ≡ status.Done → (N.faults handler.new.random.now ≡ N.faults handler.old.random.now)
+        × (I.Channel.read_faults input.new ≡ I.Channel.read_faults input.old)
+        × (O.Channel.write_faults output.new ≡ O.Channel.write_faults output.old) }
     ensures read { result ≡ status.Read → Rises (I.Channel.read_faults input.old) (I.Channel.read_faults input.new) }
     ensures write { result ≡ status.Write → Rises (O.Channel.write_faults output.old) (O.Channel.write_faults output.new) }
     ensures random_failed { result ≡ status.Random → Rises (N.faults handler.old.random.now) (N.faults handler.new.random.now) }
