@@ -1,4 +1,7 @@
+ghost use Rattle.std.specs.Prelude.{◌≡◌};
+ghost use Rattle.fdo_commands.specs.declared.status.Status.TheVariants as status;
 ghost use Rattle.fdo_commands.specs.Ran.{outside};
+ghost use Rattle.fdo_ports.specs.Count.{Rises};
 ghost use Rattle.fdo_program.specs.OwnRun.{RanProgram};
 
 use crate::own_word::OwnWord;
@@ -15,9 +18,15 @@ pub fn answer<I: Source, O: Sink, N: Random>(
     output: &mut O,
     random: &mut N,
 ) -> Status
-    ensures { RanProgram words.now
+    ensures ran { RanProgram words.now
         (outside (I.Channel.left input.old) (I.Channel.read_faults input.old) (O.Channel.written output.old) (O.Channel.write_faults output.old) (N.draws random.old) (N.faults random.old))
         (outside (I.Channel.left input.new) (I.Channel.read_faults input.new) (O.Channel.written output.new) (O.Channel.write_faults output.new) (N.draws random.new) (N.faults random.new)) result }
+    ensures done { result ≡ status.Done → (N.faults random.new ≡ N.faults random.old)
+        × (I.Channel.read_faults input.new ≡ I.Channel.read_faults input.old)
+        × (O.Channel.write_faults output.new ≡ O.Channel.write_faults output.old) }
+    ensures read { result ≡ status.Read → Rises (I.Channel.read_faults input.old) (I.Channel.read_faults input.new) }
+    ensures write { result ≡ status.Write → Rises (O.Channel.write_faults output.old) (O.Channel.write_faults output.new) }
+    ensures random_failed { result ≡ status.Random → Rises (N.faults random.old) (N.faults random.new) }
 {
     match OwnWord::of(words) {
         Some(word) => match word.answer(output) {
