@@ -101,7 +101,7 @@ unfolding SpellsRow
 row_any spells a b [] row h = h
 row_any spells a b (x ∷ xs) row h = (h.0, h.1, h.2, row_any spells (a ++ x ∷ []) (b ++ x ∷ []) xs h.1 h.3, h.4)
 
-begins : (levels : ℕ) (x : Item) (text rest : List ℕ) → SpellsWithin false levels x text → breaks (text ++ rest) ≡ false
+pub begins : (levels : ℕ) (x : Item) (text rest : List ℕ) → SpellsWithin false levels x text → breaks (text ++ rest) ≡ false
 begins levels x text rest h = no_break (text ++ rest) (λ more e. item_starts false 0 levels more (x, rest) (ap (item_at false 0 levels) (sym e) ∙ item_again false 0 levels x text rest h))
 
 -- what a move answers where bytes begin a row
@@ -151,7 +151,7 @@ drop_none : {A : Type 0} (k : ℕ) → drop {A = A} k [] ≡ []
 drop_none zero = refl
 drop_none (suc k) = refl
 
-drop_add : {A : Type 0} (a b : ℕ) (xs : List A) → drop a (drop b xs) ≡ drop (b + a) xs
+pub drop_add : {A : Type 0} (a b : ℕ) (xs : List A) → drop a (drop b xs) ≡ drop (b + a) xs
 drop_add a zero xs = ap (λ k. drop k xs) (omega arith)
 drop_add a (suc b) [] = drop_none a ∙ sym (drop_none (suc b + a))
 drop_add a (suc b) (x ∷ xs) =
@@ -170,19 +170,19 @@ after_next c input x text later s end at o e a first =
 
 -- ---- what is inside
 
-record RowAt (levels : ℕ) (l : Left) (xs : List Item) (mid : List ℕ) : Type 0 where
+pub record RowAt (levels : ℕ) (l : Left) (xs : List Item) (mid : List ℕ) : Type 0 where
   pub row : List ℕ
   pub rest : List ℕ
   pub has_row : SpellsRow (λ before. SpellsWithin false levels) [] xs row
   pub ends : Ends l xs rest
   pub bytes : mid ≡ row ++ rest
 
-abbrev Holds : ℕ → Entry → List Item → List ℕ → Type 0
+abbrev pub Holds : ℕ → Entry → List Item → List ℕ → Type 0
 Holds levels entry.Leaf xs mid = xs ≡ []
 Holds levels (entry.Counted n) xs mid = RowAt levels (left.Counted n) xs mid
 Holds levels entry.ToBreak xs mid = RowAt levels left.ToBreak xs mid
 
-record Enters (levels : ℕ) (f : Item-F Item) (tail : List ℕ) : Type 0 where
+pub record Enters (levels : ℕ) (f : Item-F Item) (tail : List ℕ) : Type 0 where
   pub head : Head
   pub front : List ℕ
   pub mid : List ℕ
@@ -277,20 +277,20 @@ FirstIn levels at entry.Leaf tail o = IsNone o
 FirstIn levels at (entry.Counted n) tail o = First levels at (left.Counted n) tail o
 FirstIn levels at entry.ToBreak tail o = First levels at left.ToBreak tail o
 
-entered : (input : List ℕ) (at levels : ℕ) (e : Entry) (xs : List Item) (mid : List ℕ) (o : Option Cursor) → Holds levels e xs mid → mid ≡ drop at input → at + length mid ≡ length input → length input < 2 ^ 64
+pub entered : (input : List ℕ) (at levels : ℕ) (e : Entry) (xs : List Item) (mid : List ℕ) (o : Option Cursor) → Holds levels e xs mid → mid ≡ drop at input → at + length mid ≡ length input → length input < 2 ^ 64
     → FirstIn levels at e mid o → Next input at xs o
 entered input at levels entry.Leaf xs mid o h place within small first = subst (λ ys. Next input at ys o) (sym h) (none_next input at o first)
 entered input at levels (entry.Counted n) xs mid o h place within small first = row_next input at levels (left.Counted n) xs mid h.row h.rest o h.has_row h.ends h.bytes place within small first
 entered input at levels entry.ToBreak xs mid o h place within small first = row_next input at levels left.ToBreak xs mid h.row h.rest o h.has_row h.ends h.bytes place within small first
 
-spelled_enters : (levels : ℕ) (x : Item) (text after : List ℕ) → length (text ++ after) < 2 ^ 64 → SpellsWithin false levels x text → Enters (levels - 1) (out-Item x) (text ++ after)
+pub spelled_enters : (levels : ℕ) (x : Item) (text after : List ℕ) → length (text ++ after) < 2 ^ 64 → SpellsWithin false levels x text → Enters (levels - 1) (out-Item x) (text ++ after)
 unfolding SpellsWithin
 spelled_enters zero x text after small h = absurd h
 spelled_enters (suc levels) x text after small h =
     let e : suc levels - 1 ≡ levels = omega arith in
     subst (λ k. Enters k (out-Item x) (text ++ after)) (sym e) (layer_enters levels (out-Item x) text after small h)
 
-stands_enters : (c : Cursor) (input : List ℕ) (x : Item) (text : List ℕ) (later : List Item) → Stands c input x text later → Enters (c.levels - 1) (out-Item x) c.tail.now
+pub stands_enters : (c : Cursor) (input : List ℕ) (x : Item) (text : List ℕ) (later : List Item) → Stands c input x text later → Enters (c.levels - 1) (out-Item x) c.tail.now
 stands_enters c input x text later s =
     let small : length (text ++ (s.row ++ s.rest)) < 2 ^ 64 = omega (arith, ap length s.bytes, s.within, s.small) in
     subst (Enters (c.levels - 1) (out-Item x)) (sym s.bytes) (spelled_enters c.levels x text (s.row ++ s.rest) small s.spelled)

@@ -7,4 +7,5 @@ pub mod Norm
 pub mod Parts
 pub mod Passing
 pub mod Reading
+pub mod Spots
 pub mod Spelling
