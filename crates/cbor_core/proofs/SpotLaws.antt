@@ -1,22 +1,25 @@
 -- The places of parts, and the cursors that stand there.
-use Rattle.std.proofs.Common.{◌≡◌, ℕ, zero, suc, ◌+◌, ◌-◌, ◌*◌, ◌^◌, ◌<◌, ◌≤◌, true, false, cond, List, [], ◌∷◌, ◌++◌, length, map, take, drop, min, Option, Some, None, Ok, Err, refl, sym, ap, subst, ◌∙◌, append_assoc, arith, inl, inr}
-use Rattle.std.specs.Prelude.{IsNone, IsSomeAnd}
+use Rattle.std.proofs.Common.{◌≡◌, ℕ, zero, suc, ◌+◌, ◌-◌, ◌^◌, ◌<◌, ◌≤◌, true, false, List, [], ◌∷◌, ◌++◌, length, map, take, drop, min, Option, Some, None, Ok, refl, sym, ap, subst, ◌∙◌, append_assoc, arith}
 use Rattle.std.specs.List.{AllByRecursion}
-use Rattle.std.proofs.lemmas.List.{length-append, take_at, drop_at}
+use Rattle.std.proofs.lemmas.List.{length-append, append-nil, take_at, drop_at}
 use Rattle.cbor_core.specs.declared.cursor.Cursor.{Cursor}
 use Rattle.cbor_core.specs.declared.cursor.Left.{Left}
 use Rattle.cbor_core.specs.declared.cursor.Left.TheVariants as left
 use Rattle.cbor_core.specs.declared.cursor.Entry.{Entry}
 use Rattle.cbor_core.specs.declared.cursor.Entry.TheVariants as entry
 use Rattle.cbor_core.specs.declared.head.Head.{Head}
-use Rattle.cbor_core.specs.declared.item.Item.{Item, out-Item}
-use Rattle.cbor_core.specs.Reading.{Read, breaks, head_at, item_at}
+use Rattle.cbor_core.specs.declared.item.Item.{Item}
+use Rattle.cbor_core.specs.Deterministic.{det}
+use Rattle.cbor_core.specs.Norm.{norm, IsFit}
+use Rattle.cbor_core.specs.Reading.{breaks, head_at, item_at, first_item}
 use Rattle.cbor_core.specs.Spelling.{SpellsRow, SpellsWithin}
-use Rattle.cbor_core.specs.Parts.{entry_of, inner, inner_in, Ends, Stands, Next, Inside}
-use Rattle.cbor_core.specs.Spots.{Spot, start, item_in_read, end_in_read, spot_item, spot_end, spot_size, spot_raw, spot_next, counted_spots, open_spots, spots_left, spots_behind, parts_behind, spot_parts, cursor_spot, cursor_later, IsPlaced, IsFirst, IsSpelled, HasParts}
+use Rattle.cbor_core.specs.Parts.{entry_of, inner, Ends, Stands, Next}
+use Rattle.cbor_core.specs.Spots.{Spot, start, item_in_read, end_in_read, spot_item, spot_end, spot_size, spot_raw, spot_next, counted_spots, open_spots, spots_left, spots_behind, parts_behind, spot_parts, cursor_spot, cursor_later, IsPlaced, IsFirst, IsSpelled, HasParts, Standing}
 use Rattle.cbor_core.proofs.Bytes.{ok_is}
+use Rattle.cbor_core.proofs.Fits.{fit_spells}
+use Rattle.cbor_core.proofs.Loose.{loosely}
 use Rattle.cbor_core.proofs.Again.{item_again, item_some}
-use Rattle.cbor_core.proofs.PartLaws.{First, FirstIn, Holds, RowAt, Enters, begins, drop_add, entered, inside_leaf, inside_read, stands_enters, spelled_enters}
+use Rattle.cbor_core.proofs.PartLaws.{First, FirstIn, Holds, begins, drop_add, entered, stands_enters, spelled_enters}
 
 -- ---- what a spelled item says of its place
 
@@ -190,3 +193,39 @@ inside_first c input x text later s head rest at levels o reads a l first =
     go : (o : Option Cursor) → FirstIn (c.levels - 1) (c.at + (length c.tail.now - length rest)) (entry_of head) rest o → LedTo (c.levels - 1) (c.at + (length c.tail.now - length rest)) rest o
     go None first = tt
     go (Some d) first = led_in (c.levels - 1) (c.at + (length c.tail.now - length rest)) (entry_of head) rest d first
+
+-- ---- the outermost item
+
+pub none_spots : (s : Spot) → counted_spots 0 s ≡ []
+unfolding counted_spots
+none_spots s = refl
+
+pub opened_first : (c : Cursor) (bytes : List ℕ) (x : Item) (n : ℕ) → first_item false bytes ≡ Ok (x, n) → Stands c bytes x (take n bytes) [] → cursor_spot c ≡ start bytes → first_item false bytes ≡ Ok (spot_item (start bytes), n)
+opened_first c bytes x n read s is =
+    let item : spot_item (start bytes) ≡ x = ap spot_item (sym is) ∙ (stands_spot c bytes x (take n bytes) [] s).item in
+    read ∙ ap (λ (y : Item). Ok (y, n)) (sym item)
+
+-- ---- parts
+
+abbrev standing_of : Cursor → Standing
+standing_of c = record { spot = cursor_spot c; later = cursor_later c }
+
+pub placed_item : (c : Cursor) (p : IsPlaced c) (s : Standing) → standing_of c ≡ s → spot_item s.spot ≡ p.item
+placed_item c p s e = ap (λ (m : Standing). spot_item m.spot) (sym e) ∙ (stands_spot c p.input p.item p.text p.later p.stands).item
+
+pub placed_raw : (c : Cursor) (p : IsPlaced c) (s : Standing) → standing_of c ≡ s → spot_raw s.spot ≡ p.text
+placed_raw c p s e = ap (λ (m : Standing). spot_raw m.spot) (sym e) ∙ (stands_spot c p.input p.item p.text p.later p.stands).raw
+
+-- ---- what is written
+
+pub written_spelled : (x : Item) (bytes : List ℕ) → IsFit x → bytes ≡ det x → IsSpelled (start bytes) × (spot_item (start bytes) ≡ norm x)
+written_spelled x bytes fit e =
+    let h : SpellsWithin false 16 (norm x) bytes = loosely 16 (norm x) bytes (subst (SpellsWithin true 16 (norm x)) (sym e) (fit_spells 16 x fit)) in
+    let is = spot_is (start bytes) (norm x) bytes [] h (sym (append-nil bytes)) in (
+      record {
+        rest = [];
+        bytes = sym (append-nil (spot_raw (start bytes)) ∙ is.raw);
+        spelled = subst (λ y. SpellsWithin false 16 y (spot_raw (start bytes))) (sym is.item) (subst (SpellsWithin false 16 (norm x)) (sym is.raw) h);
+      },
+      is.item,
+    )

@@ -8,6 +8,7 @@ use Rattle.cbor_core.specs.declared.cursor.Entry.{Entry}
 use Rattle.cbor_core.specs.declared.cursor.Entry.TheVariants as entry
 use Rattle.cbor_core.specs.declared.head.Head.{Head}
 use Rattle.cbor_core.specs.declared.item.Item.{Item}
+use Rattle.cbor_core.specs.declared.item.Item.TheOpen.{Item-F}
 use Rattle.cbor_core.specs.declared.item.Item.TheVariants as items
 use Rattle.cbor_core.specs.Reading.{Read, breaks, head_at, item_at}
 use Rattle.cbor_core.specs.Spelling.{SpellsWithin}
@@ -37,6 +38,15 @@ spot_item s = item_in_read (item_at false 0 s.levels s.tail)
 
 abbrev pub spot_end : Spot → List ℕ
 spot_end s = end_in_read (item_at false 0 s.levels s.tail)
+
+-- the content of a string
+abbrev pub bytes_in : Item-F Item → Option (List ℕ)
+bytes_in (Item-F.Bytes b) = Some b
+bytes_in _ = None
+
+abbrev pub text_in : Item-F Item → Option (List ℕ)
+text_in (Item-F.Text t) = Some t
+text_in _ = None
 
 -- how many bytes the item takes, and which
 abbrev pub spot_size : Spot → ℕ
@@ -107,3 +117,13 @@ pub record IsSpelled (s : Spot) : Type 0 where
 pub record HasParts (s : Spot) : Type 0 where
   pub items : map spot_item (spot_parts s) ≡ inner (spot_item s)
   pub spelled : AllByRecursion IsSpelled (spot_parts s)
+
+-- a part of an input: where it stands, and what follows in the same array or map
+pub record Standing : Type 0 where
+  pub spot : Spot
+  pub later : List Spot
+
+-- the part at the first of some places
+abbrev pub first_of : List Spot → Option Standing
+first_of [] = None
+first_of (s ∷ ss) = Some (record { spot = s; later = ss })

@@ -6,6 +6,7 @@ ghost use Rattle.cbor_core.specs.declared.item.Item.{Item, out-Item};
 ghost use Rattle.cbor_core.specs.Reading.{Fails, first_item, breaks};
 ghost use Rattle.cbor_core.specs.Spelling.{SpellsWithin, code};
 ghost use Rattle.cbor_core.specs.Parts.{Stands, Next, entry_of, Inside, major_in, number_in, head_major, head_number, ContentOf, content_in};
+ghost use Rattle.cbor_core.specs.Spots.{start, spot_item, spot_parts, cursor_spot, cursor_later, IsPlaced, IsFirst};
 
 use crate::chunks::find_chunk;
 use crate::counting::find_count;
@@ -41,6 +42,8 @@ impl<'a> Cursor<'a> {
     pub fn open(alloc: Global, bytes: &'a [u8]) -> Result<(Cursor<'a>, usize), CborFault>
         ensures ok { IfOk result (λ p. (x : Item) × (first_item false bytes.now ≡ Ok (x, p.1)) × Stands p.0 bytes.now x (take p.1 bytes.now) [] × (p.0.at ≡ 0)) }
         ensures err { IfErr result (λ e. Fails e (first_item false bytes.now)) }
+        // It stands at the outermost item.
+        ensures placed { IfOk result (λ p. IsPlaced p.0 × (cursor_spot p.0 ≡ start bytes.now) × (cursor_later p.0 ≡ []) × (first_item false bytes.now ≡ Ok (spot_item (start bytes.now), p.1))) }
     {
         match pass_item(Some(alloc), bytes.len(), 16, bytes) {
             Ok(rest) => Ok((
@@ -140,7 +143,8 @@ impl<'a> Cursor<'a> {
 
     /// The next element, key or value in the same array or map. None exactly at the last, and at the outermost item.
     pub fn after(&self) -> Option<Cursor<'a>>
-        ensures { (input : List ℕ) (x : Item) (text : List ℕ) (later : List Item) → Stands self.now input x text later → Next input (self.now.at + length text) later result }
+        ensures next { (input : List ℕ) (x : Item) (text : List ℕ) (later : List Item) → Stands self.now input x text later → Next input (self.now.at + length text) later result }
+        ensures first { IsPlaced self.now → IsFirst (cursor_later self.now) result }
     {
         let end = self.end();
         match self.left {
@@ -151,7 +155,8 @@ impl<'a> Cursor<'a> {
 
     /// The first element, key or tagged item. None exactly where there is none.
     pub fn inside(&self) -> Option<Cursor<'a>>
-        ensures { (input : List ℕ) (x : Item) (text : List ℕ) (later : List Item) → Stands self.now input x text later → Inside input self.now.at x result }
+        ensures inside { (input : List ℕ) (x : Item) (text : List ℕ) (later : List Item) → Stands self.now input x text later → Inside input self.now.at x result }
+        ensures first { IsPlaced self.now → IsFirst (spot_parts (cursor_spot self.now)) result }
     {
         match read_head(0, self.tail) {
             Ok((head, rest)) => match find_entry(head) {
