@@ -229,3 +229,14 @@ written_spelled x bytes fit e =
       },
       is.item,
     )
+
+pub placed_parts : (c : Cursor) (p : IsPlaced c) (s : Standing) → standing_of c ≡ s → map spot_item (spot_parts s.spot) ≡ inner (spot_item s.spot)
+placed_parts c p s e =
+    let h = p.stands in
+    let is = stands_spot c p.input p.item p.text p.later h in
+    let spelled : IsSpelled (cursor_spot c) = record {
+      rest = h.row ++ h.rest;
+      bytes = h.bytes ∙ ap (λ t. t ++ (h.row ++ h.rest)) (sym is.raw);
+      spelled = subst (λ y. SpellsWithin false c.levels y (spot_raw (cursor_spot c))) (sym is.item) (subst (SpellsWithin false c.levels p.item) (sym is.raw) h.spelled);
+    } in
+    subst (λ (m : Standing). map spot_item (spot_parts m.spot) ≡ inner (spot_item m.spot)) e (has_parts (cursor_spot c) spelled (omega (arith, h.within, h.small))).items

@@ -1,7 +1,7 @@
-ghost use Rattle.std.specs.Prelude.{◌≡◌, [], false, Ok, IfOk, IfErr};
+ghost use Rattle.std.specs.Prelude.{◌≡◌, [], map, false, Ok, IfOk, IfErr};
 ghost use Rattle.cbor_core.specs.Counting.{count_in};
 ghost use Rattle.cbor_core.specs.declared.item.Item.{out-Item};
-ghost use Rattle.cbor_core.specs.Parts.{major_in, number_in};
+ghost use Rattle.cbor_core.specs.Parts.{inner, major_in, number_in};
 ghost use Rattle.cbor_core.specs.Reading.{Fails, first_item};
 ghost use Rattle.cbor_core.specs.Spots.{start, spot_item, spot_raw, spot_parts, bytes_in, text_in, first_of};
 
@@ -112,7 +112,9 @@ impl<'a> Part<'a> {
 
     /// The first element, key or tagged item. None exactly where there is none.
     pub fn inside(&self) -> Option<Part<'a>>
-        ensures { result ≡ first_of (spot_parts self.now.spot) }
+        ensures first { result ≡ first_of (spot_parts self.now.spot) }
+        // They are the parts of the item.
+        ensures items { map spot_item (spot_parts self.now.spot) ≡ inner (spot_item self.now.spot) }
     {
         match self.cursor.inside() {
             Some(cursor) => Some(Part { cursor }),
