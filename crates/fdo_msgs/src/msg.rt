@@ -1,5 +1,8 @@
 use cbor_core::{Item, Text};
 
+/// A device's identifier in a voucher and a credential (FIDO Device Onboard 1.1, section 3.3.1).
+pub type Guid = [u8; 16];
+
 /// A nonce: 16 random bytes that the other end has to give back.
 pub type Nonce = [u8; 16];
 
