@@ -1,0 +1,11 @@
+/// A hash or an HMAC (FIDO Device Onboard 1.1, section 3.3.2). `kind` is its number (`SHA256` and the like), `len`
+/// how many bytes it has, 32 or 48, and `bytes` has them in front and zeros past them.
+#[derive(Clone, Copy, Debug, PartialEq, Eq)]
+pub struct Hash {
+    pub kind: i64,
+    pub len: u8,
+    pub bytes: [u8; 48],
+}
+
+/// An HMAC (RFC 2104), in the form of a hash.
+pub type HMac = Hash;
