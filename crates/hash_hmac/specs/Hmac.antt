@@ -11,7 +11,7 @@ abbrev pub key_block : (List ℕ → List ℕ) → ℕ → List ℕ → List ℕ
 key_block hash block secret = padded block (if nat_lt block (length secret) then hash secret else secret)
 
 -- H(K XOR opad, H(K XOR ipad, text)), where the key K is a block, ipad is 36 in each byte and opad 5c (section 2)
-abbrev pub hmac : (List ℕ → List ℕ) → ℕ → List ℕ → List ℕ → List ℕ
+unfoldable pub hmac : (List ℕ → List ℕ) → ℕ → List ℕ → List ℕ → List ℕ
 hmac hash block secret text =
     let key = key_block hash block secret in
     hash (xor_all 0x5c key ++ hash (xor_all 0x36 key ++ text))
@@ -25,7 +25,7 @@ abbrev pub hmac_sha384 : List ℕ → List ℕ → List ℕ
 hmac_sha384 secret text = hmac sha384 128 secret text
 
 -- the HMAC of a text, by its kind; none where the kind is that of no HMAC
-abbrev pub maced : ℤ → List ℕ → List ℕ → Option (List ℕ)
+unfoldable pub maced : ℤ → List ℕ → List ℕ → Option (List ℕ)
 maced kind secret text =
     if int_eq kind hmac_sha256_kind then Some (hmac_sha256 secret text)
     else if int_eq kind hmac_sha384_kind then Some (hmac_sha384 secret text)

@@ -12,6 +12,7 @@ use sha2::{Digest, Sha256, Sha384};
 
 /// The hash of two texts in a row (FIPS 180-4): SHA-256 for the kind -16, SHA-384 for -43. The texts have any
 /// length. None where the kind is neither.
+#[tactic(auto, unfolding(crate::specs::Hashing::hashed))]
 pub fn hash_of(kind: i64, first: &[u8], second: &[u8]) -> Option<Hash>
     ensures value { result ≡ option_map (hash_value kind) (hashed kind (first.now ++ second.now)) }
     ensures none { IsNone result ↔ ((kind ≢ sha256_kind) × (kind ≢ sha384_kind)) }

@@ -18,6 +18,7 @@ const OUTER: u8 = 0x5c;
 
 /// The HMAC of a text under a secret (RFC 2104): HMAC-SHA-256 for the kind 5, HMAC-SHA-384 for 6. Secret and text
 /// have any length. None where the kind is neither.
+#[tactic(auto, unfolding(crate::specs::Hmac::maced))]
 pub fn hmac_of(kind: i64, secret: &[u8], text: &[u8]) -> Option<HMac>
     ensures value { result ≡ option_map (hash_value kind) (maced kind secret.now text.now) }
     ensures none { IsNone result ↔ ((kind ≢ hmac_sha256_kind) × (kind ≢ hmac_sha384_kind)) }
@@ -31,6 +32,7 @@ pub fn hmac_of(kind: i64, secret: &[u8], text: &[u8]) -> Option<HMac>
 }
 
 /// HMAC-SHA-256 of a text under a secret.
+#[tactic(auto, unfolding(crate::specs::Hmac::hmac))]
 pub(crate) fn hmac_sha256(secret: &[u8], text: &[u8]) -> [u8; 32]
     ensures { result ≡ hmac_sha256_of secret.now text.now }
 {
@@ -40,6 +42,7 @@ pub(crate) fn hmac_sha256(secret: &[u8], text: &[u8]) -> [u8; 32]
 }
 
 /// HMAC-SHA-384 of a text under a secret.
+#[tactic(auto, unfolding(crate::specs::Hmac::hmac))]
 pub(crate) fn hmac_sha384(secret: &[u8], text: &[u8]) -> [u8; 48]
     ensures { result ≡ hmac_sha384_of secret.now text.now }
 {
