@@ -14,7 +14,7 @@ use Rattle.cbor_core.specs.Norm.{norm, IsFit}
 use Rattle.cbor_core.specs.Reading.{breaks, head_at, item_at, first_item}
 use Rattle.cbor_core.specs.Spelling.{SpellsRow, SpellsWithin}
 use Rattle.cbor_core.specs.Parts.{entry_of, inner, Ends, Stands, Next}
-use Rattle.cbor_core.specs.Spots.{Spot, start, item_in_read, end_in_read, spot_item, spot_end, spot_size, spot_raw, spot_next, counted_spots, open_spots, spots_left, spots_behind, parts_behind, spot_parts, cursor_spot, cursor_later, IsPlaced, IsFirst, IsSpelled, HasParts, Standing}
+use Rattle.cbor_core.specs.Spots.{Spot, start, item_in_read, end_in_read, spot_item, spot_end, spot_size, spot_raw, spot_next, counted_spots, open_spots, spots_left, spots_behind, parts_behind, spot_parts, cursor_spot, cursor_later, IsPlaced, IsFirst, IsSpelled, HasParts, Standing, first_of, spots_of}
 use Rattle.cbor_core.proofs.Bytes.{ok_is}
 use Rattle.cbor_core.proofs.Fits.{fit_spells}
 use Rattle.cbor_core.proofs.Loose.{loosely}
@@ -240,3 +240,17 @@ placed_parts c p s e =
       spelled = subst (λ y. SpellsWithin false c.levels y (spot_raw (cursor_spot c))) (sym is.item) (subst (SpellsWithin false c.levels p.item) (sym is.raw) h.spelled);
     } in
     subst (λ (m : Standing). map spot_item (spot_parts m.spot) ≡ inner (spot_item m.spot)) e (has_parts (cursor_spot c) spelled (omega (arith, h.within, h.small))).items
+
+pub spots_first : (ss : List Spot) → spots_of (first_of ss) ≡ ss
+spots_first [] = refl
+spots_first (s ∷ ss) = refl
+
+pub none_left : (ss : List Spot) (o : Option Standing) → o ≡ first_of ss → o ≡ None → ss ≡ []
+none_left [] o e n = refl
+none_left (s ∷ ss) o e n = absurd (cc (e, n))
+
+pub some_left : (ss : List Spot) (o : Option Standing) (p : Standing) → o ≡ first_of ss → o ≡ Some p → ss ≡ p.spot ∷ p.later
+some_left [] o p e n = absurd (cc (e, n))
+some_left (s ∷ ss) o p e n =
+    let same : record { spot = s; later = ss } ≡ p = cc (e, n) in
+    ap (λ (q : Standing). q.spot ∷ q.later) same

@@ -127,3 +127,8 @@ pub record Standing : Type 0 where
 abbrev pub first_of : List Spot → Option Standing
 first_of [] = None
 first_of (s ∷ ss) = Some (record { spot = s; later = ss })
+
+-- the places from a part on, the part's own among them
+abbrev pub spots_of : Option Standing → List Spot
+spots_of None = []
+spots_of (Some p) = p.spot ∷ p.later
