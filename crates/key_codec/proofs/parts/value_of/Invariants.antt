@@ -1,0 +1,6 @@
+use Rattle.std.proofs.Common.{◌≡◌, drop}
+use Rattle.key_codec.specs.Parts.{labelled}
+use Rattle.key_codec.proofs.parts.value_of.Given as goal
+
+abbrev pub invariant-loop-key : goal.invariant-loop-key
+invariant-loop-key l = labelled l.label (drop l.key-index l.pairs) ≡ labelled l.label l.pairs

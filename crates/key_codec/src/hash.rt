@@ -1,0 +1,104 @@
+ghost use Rattle.std.specs.Prelude.{◌≡◌, ◌≢◌, ◌≤◌, ◌++◌, length, drop, Err, IfOk};
+ghost use Rattle.hash_hmac.specs.Bytes.{padded};
+ghost use Rattle.hash_hmac.specs.Value.{content, IsConsistent};
+ghost use Rattle.key_codec.specs.declared.fault.KeyFault.TheVariants.{NoMemory as OutOfMemory};
+ghost use Rattle.key_codec.specs.Hash.{hash_by_kind, hash_in, item_of_hash};
+
+use crate::fault::KeyFault;
+use crate::numbers::integer_item;
+use crate::parts::{bytes, number, two};
+use cbor_core::{Blob, Item, Items, NoMemory};
+use hash_hmac::{Hash, length_of};
+use std::alloc::Global;
+
+/// The hash or HMAC that an item says (FIDO Device Onboard 1.1, section 3.3.2). The faults come in this order: the
+/// shape of the array, its number and its byte string, the kind, the length. It takes no memory.
+pub fn read_hash(item: &Item) -> Result<Hash, KeyFault>
+    // The hash, or which fault it is.
+    ensures exact { result ≡ hash_in item.now }
+    // It takes no memory.
+    ensures memory { result ≢ Err OutOfMemory }
+    // What is read is consistent.
+    ensures is { IfOk result IsConsistent }
+{
+    hash_at(item)
+}
+
+#[tactic(auto, unfolding(crate::specs::Hash::hash_in))]
+fn hash_at(item: &Item) -> Result<Hash, KeyFault>
+    ensures { result ≡ hash_in item.now }
+{
+    let (first, second) = two(item)?;
+    let kind = number(first)?;
+    let content = bytes(second)?;
+    hash_by(kind, content.as_list())
+}
+
+/// The hash of a kind with these bytes, where their number is the kind's. The kind comes first. It takes no memory.
+pub fn hash_of_parts(kind: i64, bytes: &[u8]) -> Result<Hash, KeyFault>
+    // The hash, or which fault it is.
+    ensures exact { result ≡ hash_by_kind kind bytes.now }
+    // It takes no memory.
+    ensures memory { result ≢ Err OutOfMemory }
+    // What is made is consistent.
+    ensures is { IfOk result IsConsistent }
+{
+    hash_by(kind, bytes)
+}
+
+#[tactic(auto, unfolding(crate::specs::Hash::hash_by_kind))]
+fn hash_by(kind: i64, bytes: &[u8]) -> Result<Hash, KeyFault>
+    ensures { result ≡ hash_by_kind kind bytes.now }
+{
+    match length_of(kind) {
+        Some(len) => {
+            if bytes.len() == len as usize {
+                Ok(Hash {
+                    kind,
+                    len,
+                    bytes: filled(bytes),
+                })
+            } else {
+                Err(KeyFault::BadLength(bytes.len()))
+            }
+        }
+        None => Err(KeyFault::BadType(kind)),
+    }
+}
+
+/// The bytes, and zeros behind them.
+fn filled(bytes: &[u8]) -> [u8; 48]
+    requires { length bytes.now ≤ 48 }
+    ensures { result ≡ padded 48 bytes.now }
+{
+    let mut all = [0u8; 48];
+    put_front(&mut all, bytes);
+    all
+}
+
+fn put_front(into: &mut [u8], bytes: &[u8])
+    requires { length bytes.now ≤ length into.old }
+    ensures { into.new ≡ bytes.now ++ drop (length bytes.now) into.old }
+{
+    into[..bytes.len()].copy_from_slice(bytes);
+}
+
+/// The bytes of a hash.
+fn content_of(hash: &Hash) -> &[u8]
+    ensures { result.now ≡ content hash.now }
+{
+    match hash.bytes.get(..hash.len as usize) {
+        Some(bytes) => bytes,
+        None => &hash.bytes,
+    }
+}
+
+/// The item that a hash is written as.
+pub fn hash_item(alloc: Global, hash: &Hash) -> Result<Item, NoMemory>
+    ensures { IfOk result (λ item. item ≡ item_of_hash hash.now) }
+{
+    let mut parts = Items::new(alloc);
+    parts.push(integer_item(hash.kind))?;
+    parts.push(Item::Bytes(Blob::from_slice(alloc, content_of(hash))?))?;
+    Ok(Item::Array(parts))
+}
