@@ -1,4 +1,4 @@
-pub mod BodyFaults
 pub mod Cuts
 pub mod Numbers
+pub mod RowSteps
 pub mod RunMore

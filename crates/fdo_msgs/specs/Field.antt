@@ -1,5 +1,5 @@
 -- The parts of bodies: what each shape of part says, and how it is written (FIDO Device Onboard 1.1, section 3.3).
-use Rattle.std.specs.Prelude.{ℕ, ◌^◌, List, [], ◌∷◌, length, nat_lt, ◌==◌, if◌then◌else◌, Bool, true, false, Option, Some, None, option_map, Result, Ok, Err}
+use Rattle.std.specs.Prelude.{ℕ, ◌^◌, List, [], ◌∷◌, length, nat_le, ◌-◌, ◌==◌, if◌then◌else◌, Bool, true, false, Option, Some, None, option_map, Result, Ok, Err}
 use Rattle.cbor_core.specs.declared.item.Item.{Item, out-Item}
 use Rattle.cbor_core.specs.declared.item.Item.TheOpen.{Item-F}
 use Rattle.cbor_core.specs.declared.item.Item.TheVariants as items
@@ -36,10 +36,10 @@ abbrev pub ◌>>=◌ : {A B : Type 0} → Option A → (A → Option B) → Opti
 (Some x) >>= f = f x
 None >>= f = None
 
--- a number below a bound
-abbrev pub below : ℕ → Item-F Item → Option ℕ
-below bound (Item-F.Uint n) = if nat_lt n bound then Some n else None
-below bound _ = None
+-- a number up to a greatest one
+abbrev pub up_to : ℕ → Item-F Item → Option ℕ
+up_to most (Item-F.Uint n) = if nat_le n most then Some n else None
+up_to most _ = None
 
 abbrev pub of_length : ℕ → List ℕ → Option (List ℕ)
 of_length n bytes = if length bytes == n then Some bytes else None
@@ -50,16 +50,19 @@ five_in (Item-F.Array (a ∷ b ∷ c ∷ d ∷ e ∷ [])) = Some (a, b, c, d, e)
 five_in _ = None
 
 -- DeviceMfgInfo: key type, key encoding, serial number, DeviceInfo, and the key's body by its encoding
-unfoldable pub mfg_in : Item → Option MfgInfo
-mfg_in x = five_in (out-Item x) >>= λ parts. integer_in parts.0 >>= λ kind. integer_in parts.1 >>= λ enc. text_in (out-Item parts.2) >>= λ serial. text_in (out-Item parts.3) >>= λ info.
+abbrev pub mfg_of : Item × Item × Item × Item × Item → Option MfgInfo
+mfg_of parts = integer_in parts.0 >>= λ kind. integer_in parts.1 >>= λ enc. text_in (out-Item parts.2) >>= λ serial. text_in (out-Item parts.3) >>= λ info.
     if is_key_type kind then (ok_of (body_in enc parts.4) >>= λ body. Some (record { pk_type = kind; pk_enc = enc; serial = serial; info = info; body = body })) else None
+
+unfoldable pub mfg_in : Item → Option MfgInfo
+mfg_in x = five_in (out-Item x) >>= mfg_of
 
 -- the value of a part of a shape
 abbrev pub field_in : Shape → Item → Option Field
-field_in shape.U8 x = option_map field.U8 (below (2 ^ 8) (out-Item x))
-field_in shape.U16 x = option_map field.U16 (below (2 ^ 16) (out-Item x))
-field_in shape.U32 x = option_map field.U32 (below (2 ^ 32) (out-Item x))
-field_in shape.U64 x = option_map field.U64 (below (2 ^ 64) (out-Item x))
+field_in shape.U8 x = option_map field.U8 (up_to (2 ^ 8 - 1) (out-Item x))
+field_in shape.U16 x = option_map field.U16 (up_to (2 ^ 16 - 1) (out-Item x))
+field_in shape.U32 x = option_map field.U32 (up_to (2 ^ 32 - 1) (out-Item x))
+field_in shape.U64 x = option_map field.U64 (up_to (2 ^ 64 - 1) (out-Item x))
 field_in shape.I64 x = option_map field.I64 (integer_in x)
 field_in shape.Text x = option_map field.Text (text_in (out-Item x))
 field_in shape.Bytes x = option_map field.Bytes (bytes_in (out-Item x))
@@ -68,7 +71,7 @@ field_in shape.Any x = Some (field.Any x)
 field_in shape.SigInfo x = option_map field.SigInfo (ok_of (sig_info_in x))
 field_in shape.Hash x = option_map field.Hash (ok_of (hash_in x))
 field_in shape.MaybeHash x = if is_null (out-Item x) then Some (field.MaybeHash None) else option_map (λ h. field.MaybeHash (Some h)) (ok_of (hash_in x))
-field_in shape.MaybeSize x = if is_null (out-Item x) then Some (field.MaybeSize None) else option_map (λ n. field.MaybeSize (Some n)) (below (2 ^ 16) (out-Item x))
+field_in shape.MaybeSize x = if is_null (out-Item x) then Some (field.MaybeSize None) else option_map (λ n. field.MaybeSize (Some n)) (up_to (2 ^ 16 - 1) (out-Item x))
 field_in shape.Mfg x = option_map field.Mfg (mfg_in x)
 
 -- ---- writing

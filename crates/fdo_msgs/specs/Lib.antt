@@ -5,3 +5,7 @@ pub mod Refusal
 pub mod Reading
 pub mod Words
 pub mod Run
+pub mod Field
+pub mod Places
+pub mod Row
+pub mod Said

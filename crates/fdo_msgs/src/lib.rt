@@ -4,23 +4,34 @@
 pub mod answer;
 pub mod body;
 pub mod cause;
+mod faults;
+pub mod field;
 pub mod handler;
 pub mod http_fault;
+mod message;
+mod mfg;
 pub mod msg;
+
 pub mod number;
 pub mod packet;
-pub mod refusal;
+mod read_field;
+pub mod rows;
+
+pub mod shape;
 pub mod token;
 pub mod words;
 
+
 pub use answer::Answer;
-pub use body::{BodyFault, read_body, write_body};
+pub use body::BodyFault;
 pub use cause::{Cause, Object};
 pub use handler::Handler;
 pub use http_fault::HttpFault;
-pub use msg::{Guid, Msg, Nonce};
+pub use field::Field;
+pub use msg::{Guid, MfgInfo, Msg, Nonce};
 pub use number::read_number;
 pub use packet::Packet;
-pub use refusal::{error_packet, refuse};
+
+pub use shape::Shape;
 pub use token::{Token, token_text};
 pub use words::cut;

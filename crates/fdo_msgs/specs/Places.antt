@@ -1,0 +1,48 @@
+-- Where the first part stands that is not of its shape.
+use Rattle.std.specs.Prelude.{ℕ, ℤ, List, [], ◌∷◌, Bool, false, Option, Some, None, is_some, if◌then◌else◌}
+use Rattle.cbor_core.specs.declared.item.Item.{out-Item}
+use Rattle.cbor_core.specs.Spots.{Spot, spot_item, spot_parts, text_in}
+use Rattle.key_codec.specs.Key.{form_of}
+use Rattle.key_codec.specs.Numbers.{integer_in}
+use Rattle.key_codec.specs.Places.{is_array, is_type, encoded_place, hash_place, sig_info_place}
+use Rattle.fdo_msgs.specs.declared.shape.Shape.{Shape}
+use Rattle.fdo_msgs.specs.declared.shape.Shape.TheVariants as shape
+
+abbrev pub five_of : List Spot → Option (Spot × Spot × Spot × Spot × Spot)
+five_of (a ∷ b ∷ c ∷ d ∷ e ∷ []) = Some (a, b, c, d, e)
+five_of _ = None
+
+-- the parts of an array of five
+abbrev pub five_spots : Spot → Option (Spot × Spot × Spot × Spot × Spot)
+five_spots s = if is_array (out-Item (spot_item s)) then five_of (spot_parts s) else None
+
+abbrev pub is_encoding : Option ℤ → Bool
+is_encoding None = false
+is_encoding (Some enc) = is_some (form_of enc)
+
+abbrev pub is_text : Spot → Bool
+is_text s = is_some (text_in (out-Item (spot_item s)))
+
+-- DeviceMfgInfo: an unknown type or encoding has the place of its number
+abbrev pub mfg_place_in : ℕ → Option (Spot × Spot × Spot × Spot × Spot) → ℕ
+mfg_place_in at None = at
+mfg_place_in at (Some p) =
+    if is_type (integer_in (spot_item p.0)) then
+        if is_encoding (integer_in (spot_item p.1)) then
+            if is_text p.2 then
+                if is_text p.3 then encoded_place (integer_in (spot_item p.1)) p.1 p.4
+                else p.3.at
+            else p.2.at
+        else p.1.at
+    else p.0.at
+
+unfoldable pub mfg_place : Spot → ℕ
+mfg_place s = mfg_place_in s.at (five_spots s)
+
+-- in a part that is not of a shape
+abbrev pub place_at : Shape → Spot → ℕ
+place_at shape.SigInfo s = sig_info_place s
+place_at shape.Hash s = hash_place s
+place_at shape.MaybeHash s = hash_place s
+place_at shape.Mfg s = mfg_place s
+place_at _ s = s.at
