@@ -2,3 +2,4 @@ pub mod Cuts
 pub mod Numbers
 pub mod RowSteps
 pub mod RunMore
+pub mod BodyLaws

@@ -14,12 +14,15 @@ pub mod msg;
 
 pub mod number;
 pub mod packet;
+pub mod read;
 mod read_field;
+pub mod refusal;
 pub mod rows;
 
 pub mod shape;
 pub mod token;
 pub mod words;
+pub mod write;
 
 
 pub use answer::Answer;
@@ -33,5 +36,9 @@ pub use number::read_number;
 pub use packet::Packet;
 
 pub use shape::Shape;
+pub use read::read_body;
+pub use refusal::{error_packet, refuse};
+pub use rows::shapes;
 pub use token::{Token, token_text};
 pub use words::cut;
+pub use write::write_body;
