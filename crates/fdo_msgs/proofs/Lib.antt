@@ -3,3 +3,4 @@ pub mod Numbers
 pub mod RowSteps
 pub mod RunMore
 pub mod BodyLaws
+pub mod RowLaws

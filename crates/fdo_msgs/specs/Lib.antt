@@ -9,3 +9,4 @@ pub mod Field
 pub mod Places
 pub mod Row
 pub mod Said
+pub mod Fit

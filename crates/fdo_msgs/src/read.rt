@@ -16,7 +16,11 @@ use std::alloc::Global;
 /// The message that a body of a type says, all bytes of it.
 #[tactic(auto, unfolding(crate::specs::Reading::body_at))]
 pub fn read_body(alloc: Global, kind: u8, bytes: &[u8]) -> Result<Msg, BodyFault>
-    // Which message it is, or where the first fault stands.
+    // What is read is said: the bytes spell, to their end, an item whose parts are of the type's shapes.
+    ensures found { IfOk result (IsBody kind bytes.now) }
+    // What is said is read, unless memory runs out.
+    ensures only { (said : Msg) → IsBody kind bytes.now said → ReadsBody (Ok said) result }
+    // Where the first fault stands.
     ensures exact { ReadsBody (body_at kind bytes.now) result }
 {
     match shapes(kind) {
