@@ -5,8 +5,8 @@
 mod tests {
     use cbor_core::{Item, read_wire, write_det};
     use key_codec::{
-        KeyFault, X5Chain, hash_item, key_body_item, key_bytes, read_hash, read_key, read_key_body,
-        read_sig_info, sig_info_item,
+        KeyFault, PublicKey, X5Chain, hash_item, key_body_item, key_bytes, read_hash, read_key,
+        read_key_body, read_sig_info, sig_info_item,
     };
     use std::test::Fail;
 
@@ -21,30 +21,40 @@ mod tests {
         Ok(hex::encode(rt.alloc(), bytes.as_list())?)
     }
 
+    fn key_text(rt: &HostRuntime, key: &PublicKey) -> Result<String, Fail> {
+        let copy = key.copy(rt.alloc())?;
+        let bytes = key_bytes(rt.alloc(), &copy)?;
+        Ok(hex::encode(rt.alloc(), bytes.as_list())?)
+    }
+
+    fn reads_its_body(rt: &HostRuntime, key: &PublicKey) -> Result<bool, Fail> {
+        let item = key_body_item(rt.alloc(), &key.body)?;
+        let body = read_key_body(rt.alloc(), key.enc, &item)?;
+        Ok(body.same(&key.body))
+    }
+
+    fn sig_text(rt: &HostRuntime, input: &str) -> Result<String, Fail> {
+        let sig = read_sig_info(rt.alloc(), &item(rt, input)?)?;
+        let copy = sig.copy(rt.alloc())?;
+        spelling(rt, &sig_info_item(rt.alloc(), &copy)?)
+    }
+
     #[test]
     fn keys_are_read_copied_and_written(rt: HostRuntime) -> Result<(), Fail> {
         let rows = [
-            ("8318c8004101", "8318c8004101", "4101"),
-            ("830a024105", "830a02814105", "814105"),
-            ("8305028241014102", "8305028241014102", "8241014102"),
+            ("8318c8004101", "8318c8004101"),
+            ("830a024105", "830a02814105"),
+            ("8305028241014102", "8305028241014102"),
             (
                 "830b03a5224103214102046020010102",
                 "830b03a401022001214102224103",
-                "a401022001214102224103",
             ),
         ];
-        for (input, key_text, body_text) in rows {
+        for (input, answer) in rows {
             let key = read_key(rt.alloc(), &item(&rt, input)?)?;
-            let copy = key.copy(rt.alloc())?;
-            assert!(rt; copy.same(&key));
-            let bytes = key_bytes(rt.alloc(), &copy)?;
-            let text = hex::encode(rt.alloc(), bytes.as_list())?;
-            assert_eq!(rt; text.as_str(), key_text);
-            let body = key_body_item(rt.alloc(), &key.body)?;
-            let text = spelling(&rt, &body)?;
-            assert_eq!(rt; text.as_str(), body_text);
-            let read = read_key_body(rt.alloc(), key.enc, &body)?;
-            assert!(rt; read.same(&key.body));
+            let text = key_text(&rt, &key)?;
+            assert_eq!(rt; text.as_str(), answer);
+            assert!(rt; reads_its_body(&rt, &key)?);
         }
         Ok(())
     }
@@ -76,9 +86,7 @@ mod tests {
         let hash = read_hash(&item(&rt, input)?)?;
         let text = spelling(&rt, &hash_item(rt.alloc(), &hash)?)?;
         assert_eq!(rt; text.as_str(), input);
-        let sig = read_sig_info(rt.alloc(), &item(&rt, "823a000100004101")?)?;
-        let copy = sig.copy(rt.alloc())?;
-        let text = spelling(&rt, &sig_info_item(rt.alloc(), &copy)?)?;
+        let text = sig_text(&rt, "823a000100004101")?;
         assert_eq!(rt; text.as_str(), "823a000100004101");
         Ok(())
     }
