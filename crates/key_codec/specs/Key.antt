@@ -1,4 +1,4 @@
--- Public keys (FIDO Device Onboard 1.1, section 3.3.4): an array of a type, an encoding and a body.
+-- Public keys (FIDO Device Onboard 1.1, "Public Key"): an array of a type, an encoding and a body.
 use Rattle.std.specs.Prelude.{◌≡◌, ◌≢◌, ℕ, ℤ, pos, negsuc, List, [], ◌∷◌, map, Bool, true, ◌&&◌, ◌||◌, Option, Some, None, Result, Ok, Err, if◌then◌else◌}
 use Rattle.std.specs.List.{list_any}
 use Rattle.std.specs.Ordering.{int_eq}

@@ -11,7 +11,7 @@ use cbor_core::{Blob, Item, Items, NoMemory};
 use hash_hmac::{Hash, length_of};
 use std::alloc::Global;
 
-/// The hash or HMAC that an item says (FIDO Device Onboard 1.1, section 3.3.2). The faults come in this order: the
+/// The hash or HMAC that an item says (FIDO Device Onboard 1.1, "Hash / HMac"). The faults come in this order: the
 /// shape of the array, its number and its byte string, the kind, the length. It takes no memory.
 pub fn read_hash(item: &Item) -> Result<Hash, KeyFault>
     // The hash, or which fault it is.

@@ -13,7 +13,7 @@ use crate::parts::{bytes, labelled_bytes, labelled_number, number, three};
 use cbor_core::{Blob, Item};
 use std::alloc::Global;
 
-/// The key that an item says (FIDO Device Onboard 1.1, section 3.3.4). The faults come in this order: the shape of the
+/// The key that an item says (FIDO Device Onboard 1.1, "Public Key"). The faults come in this order: the shape of the
 /// array and its two numbers, the type, the encoding, the shape of the body.
 pub fn read_key(alloc: Global, item: &Item) -> Result<PublicKey, KeyFault>
     // The key, or which fault it is.
@@ -121,6 +121,7 @@ fn read_cose(item: &Item) -> Result<CoseKey, KeyFault>
     }
 }
 
+/// The point that a map says. Other labels are read over, and of two pairs with the same label the first counts.
 fn read_pairs(pairs: &[(Item, Item)]) -> Result<CoseKey, KeyFault>
     ensures { Says (λ key. key) result (cose_of pairs.now) }
 {

@@ -9,7 +9,7 @@ use crate::parts::{bytes, number, two};
 use cbor_core::{Blob, Item, Items, NoMemory};
 use std::alloc::Global;
 
-/// How a device signs (FIDO Device Onboard 1.1, section 3.3.7).
+/// How a device signs (FIDO Device Onboard 1.1, "SigInfo").
 #[derive(Debug, Drop)]
 pub struct SigInfo {
     /// The number of the algorithm.
