@@ -6,7 +6,7 @@ use Rattle.sha2.specs.Sha512.{sha384}
 use Rattle.hash_hmac.specs.Kind.{sha256_kind, sha384_kind}
 
 -- none where the kind is that of no hash
-abbrev pub hashed : ℤ → List ℕ → Option (List ℕ)
+unfoldable pub hashed : ℤ → List ℕ → Option (List ℕ)
 hashed kind text =
     if int_eq kind sha256_kind then Some (sha256 text)
     else if int_eq kind sha384_kind then Some (sha384 text)

@@ -17,9 +17,9 @@ pub(crate) fn padded<const N: usize>(bytes: &[u8]) -> [u8; N]
 pub(crate) fn xored<const N: usize>(block: &[u8; N], byte: u8) -> [u8; N]
     ensures { result ≡ xor_all byte block.now }
 {
-    let mut all = [0u8; N];
+    let mut combined = [0u8; N];
     for i in 0..N {
-        all[i] = block[i] ^ byte;
+        combined[i] = block[i] ^ byte;
     }
-    all
+    combined
 }

@@ -1,15 +1,17 @@
-ghost use Rattle.std.specs.Prelude.{◌≡◌, ◌⊎◌};
-ghost use Rattle.hash_hmac.specs.Bytes.{padded as padded_bytes};
+ghost use Rattle.std.specs.Prelude.{◌≡◌, ◌⊎◌, ◌-◌, ◌/◌, drop, replicate};
 ghost use Rattle.hash_hmac.specs.Session.{derivation_text, derived_key};
 
 use crate::bytes::padded;
 use crate::hmac::hmac_sha256;
 
 /// The key of a session, from the secret that both ends share, by the key derivation function of FIDO Device
-/// Onboard 1.1, section 3.6.4. It has `bits` bits, 128 or 256, in front of the array; past 128 bits are zeros.
+/// Onboard 1.1, section 3.6.4: the first `bits` bits, 128 or 256, of one HMAC-SHA-256. The key stands in front of the
+/// array, 16 or 32 bytes; the bytes past it are zero.
+#[tactic(auto, unfolding(crate::specs::Session::derived_key))]
 pub fn session_key(shared: &[u8], bits: u16) -> [u8; 32]
     requires { (bits ≡ 128) ⊎ (bits ≡ 256) }
-    ensures { result ≡ padded_bytes 32 (derived_key shared.now bits) }
+    ensures key { result ≡ derived_key shared.now bits }
+    ensures zeros { drop (bits / 8) result ≡ replicate (32 - bits / 8) 0 }
 {
     let mac = hmac_sha256(shared, &text(bits));
     padded(mac.as_slice().split_at(bits as usize / 8).0)

@@ -1,0 +1,119 @@
+//! Tests of `hash_hmac`, against values that Python's `hashlib` and `hmac` computed.
+#![tactic(auto)]
+
+#[cfg(test)]
+mod vectors;
+
+#[cfg(test)]
+mod tests {
+    use crate::vectors::{HASHES, HMACS, LENGTHS, SESSIONS};
+    use hash_hmac::{
+        HMAC_SHA256, HMAC_SHA384, Hash, SHA256, SHA384, hash_of, hmac_of, length_of, session_key,
+    };
+    use std::test::Fail;
+
+    /// What a hash holds, in one line: its kind, its length and all of its 48 bytes.
+    fn shown(rt: &HostRuntime, hash: Option<Hash>) -> Result<String, Fail> {
+        let Some(hash) = hash else {
+            return Ok(String::from_str(rt.alloc(), "none")?);
+        };
+        let bytes = hex::encode(rt.alloc(), hash.bytes.as_slice())?;
+        Ok(format!(in rt.alloc(); "{} {} {bytes}", hash.kind, hash.len)?)
+    }
+
+    /// The line of a hash with the bytes that a hex text spells, and zeros past them.
+    fn expected(rt: &HostRuntime, kind: i64, value: &str) -> Result<String, Fail> {
+        Ok(format!(in rt.alloc(); "{kind} {} {value:0<96}", value.len() / 2)?)
+    }
+
+    #[test]
+    fn hashes_of_texts(rt: HostRuntime) -> Result<(), Fail> {
+        for (first, second, short, long) in HASHES {
+            let (first, second) = (first.as_bytes(), second.as_bytes());
+            for (kind, value) in [(SHA256, short), (SHA384, long)] {
+                let line = shown(&rt, hash_of(kind, first, second))?;
+                let wanted = expected(&rt, kind, value)?;
+                assert_eq!(rt; line.as_str(), wanted.as_str());
+            }
+        }
+        Ok(())
+    }
+
+    #[test]
+    fn hmacs_of_rfc_4231(rt: HostRuntime) -> Result<(), Fail> {
+        for (secret, text, short, long) in HMACS {
+            let secret = hex::decode(rt.alloc(), secret)?;
+            let text = hex::decode(rt.alloc(), text)?;
+            for (kind, value) in [(HMAC_SHA256, short), (HMAC_SHA384, long)] {
+                let line = shown(&rt, hmac_of(kind, secret.as_slice(), text.as_slice()))?;
+                let wanted = expected(&rt, kind, value)?;
+                assert_eq!(rt; line.as_str(), wanted.as_str());
+            }
+        }
+        Ok(())
+    }
+
+    #[test]
+    fn lengths_around_a_block(rt: HostRuntime) -> Result<(), Fail> {
+        let mut bytes = Vec::new(rt.alloc());
+        for i in 0..257u32 {
+            bytes.push((i % 251) as u8)?;
+        }
+        for (length, hash_256, hash_384, hmac_256, hmac_384) in LENGTHS {
+            let text = bytes.as_slice().split_at(length.min(bytes.len())).0;
+            let (first, second) = text.split_at(length.min(text.len()) / 3);
+            let lines = [
+                (hash_of(SHA256, first, second), SHA256, hash_256),
+                (hash_of(SHA384, first, second), SHA384, hash_384),
+                (hmac_of(HMAC_SHA256, text, text), HMAC_SHA256, hmac_256),
+                (hmac_of(HMAC_SHA384, text, text), HMAC_SHA384, hmac_384),
+            ];
+            for (hash, kind, value) in lines {
+                let line = shown(&rt, hash)?;
+                let wanted = expected(&rt, kind, value)?;
+                assert_eq!(rt; line.as_str(), wanted.as_str());
+            }
+        }
+        Ok(())
+    }
+
+    #[test]
+    fn session_keys(rt: HostRuntime) -> Result<(), Fail> {
+        for (shared, bits, wanted) in SESSIONS {
+            let shared = hex::decode(rt.alloc(), shared)?;
+            // the prover reads no table
+            let bits = if bits == 128 { 128 } else { 256 };
+            let key = session_key(shared.as_slice(), bits);
+            let key = hex::encode(rt.alloc(), key.as_slice())?;
+            assert_eq!(rt; key.as_str(), wanted);
+        }
+        Ok(())
+    }
+
+    #[test]
+    fn kinds(rt: HostRuntime) -> Result<(), Fail> {
+        // the kind, its length, and whether it is that of a hash and that of an HMAC
+        let rows = [
+            (-16, Some(32), true, false),
+            (-43, Some(48), true, false),
+            (5, Some(32), false, true),
+            (6, Some(48), false, true),
+            (0, None, false, false),
+            (16, None, false, false),
+            (43, None, false, false),
+            (-5, None, false, false),
+            (-6, None, false, false),
+            (-44, None, false, false),
+            (4, None, false, false),
+            (7, None, false, false),
+            (i64::MIN, None, false, false),
+            (i64::MAX, None, false, false),
+        ];
+        for (kind, length, hashes, macs) in rows {
+            assert_eq!(rt; length_of(kind), length);
+            assert_eq!(rt; hash_of(kind, b"a", b"bc").is_some(), hashes);
+            assert_eq!(rt; hmac_of(kind, b"a", b"bc").is_some(), macs);
+        }
+        Ok(())
+    }
+}
