@@ -1,6 +1,6 @@
 -- What is read is a key of the form.
 use Rattle.std.proofs.Common.{◌≡◌, ℕ, ℤ, pos, negsuc, Bool, true, false, List, [], ◌∷◌, Option, Some, None, Result, Ok, Err, refl, ap, subst, ◌∙◌}
-use Rattle.std.specs.Prelude.{◌≢◌, ◌&&◌, if◌then◌else◌, IfOk}
+use Rattle.std.specs.Prelude.{◌≢◌, ◌&&◌, if◌then◌else◌}
 use Rattle.std.specs.Ordering.{int_eq}
 use Rattle.std.proofs.lemmas.Bool.Decides.{Decides-int_eq}
 use Rattle.cbor_core.specs.declared.item.Item.{Item, out-Item}
@@ -13,7 +13,7 @@ use Rattle.key_codec.specs.declared.key.CoseKey.{CoseKey}
 use Rattle.key_codec.specs.declared.key.KeyBody.{KeyBody}
 use Rattle.key_codec.specs.declared.key.KeyBody.TheVariants as body
 use Rattle.key_codec.specs.declared.key.PublicKey.{PublicKey}
-use Rattle.key_codec.specs.Fault.{◌>>=◌, shaped, Says}
+use Rattle.key_codec.specs.Fault.{◌>>=◌, shaped}
 use Rattle.key_codec.specs.Parts.{three_in, bytes_in, number_in, all_bytes, pairs_layer, number_at, bytes_at}
 use Rattle.key_codec.specs.Key.{is_key_type, form_of, form_of_body, chain_of, chain_layer, chain_in, cose_of, cose_in, body_of_form, body_if_known, body_in, key_of, key_in, is_curve, IsBody, IsKey}
 use Rattle.key_codec.proofs.Binds.{bind_ok, ok_is}

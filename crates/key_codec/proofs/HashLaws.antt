@@ -15,7 +15,7 @@ use Rattle.key_codec.specs.Fault.{◌>>=◌, shaped}
 use Rattle.key_codec.specs.Numbers.{item_of_integer, IsI64}
 use Rattle.key_codec.specs.Parts.{two_in, bytes_in, number_in}
 use Rattle.key_codec.specs.Hash.{hash_if_known, hash_by_kind, hash_in, item_of_hash}
-use Rattle.key_codec.proofs.Binds.{bind_ok, ok_is}
+use Rattle.key_codec.proofs.Binds.{bind_ok, ok_is, some_is}
 use Rattle.key_codec.proofs.Found.{passed}
 use Rattle.key_codec.proofs.Said.{two_said, number_said, bytes_said, pair_item}
 use Rattle.key_codec.proofs.Back.{number_back, bytes_back, two_back, same_int}
@@ -24,9 +24,6 @@ use Rattle.key_codec.proofs.Back.{number_back, bytes_back, two_back, same_int}
 pub record IsKnown (kind : ℤ) (len : ℕ) : Type 0 where
   pub number : IsI64 kind
   pub short : len ≤ 48
-
-some_is : (m n : ℕ) → Some m ≡ Some n → m ≡ n
-some_is m n e = cc
 
 kinds : (kind : ℤ) (len : ℕ) (a b c d : Bool) → (a ≡ true → IsI64 kind) → (b ≡ true → IsI64 kind) → (c ≡ true → IsI64 kind) → (d ≡ true → IsI64 kind)
     → (if a || b then Some 32 else if c || d then Some 48 else None) ≡ Some len → IsKnown kind len

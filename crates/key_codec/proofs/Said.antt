@@ -1,13 +1,10 @@
 -- An item is read as a value exactly where it is one of the value's items.
-use Rattle.std.proofs.Common.{◌≡◌, ℕ, ◌^◌, ◌<◌, ℤ, pos, negsuc, Bool, true, false, List, [], ◌∷◌, length, map, Option, Some, None, Result, Ok, Err, refl, sym, ap, subst, ◌∙◌, lit<, inl, inr}
-use Rattle.std.specs.Prelude.{◌≢◌, ◌⊎◌, ◌&&◌, option_and_then, nat_lt, if◌then◌else◌, IfOk}
-use Rattle.std.specs.Ordering.{int_eq}
-use Rattle.std.proofs.lemmas.Bool.Decides.{Decides-int_eq}
+use Rattle.std.proofs.Common.{◌≡◌, ℕ, ◌^◌, ℤ, pos, negsuc, Bool, true, false, List, [], ◌∷◌, map, Option, Some, None, Result, Ok, Err, refl, sym, ap, subst, ◌∙◌, lit<, inl, inr}
+use Rattle.std.specs.Prelude.{◌≢◌, option_and_then, nat_lt, if◌then◌else◌, IfOk}
 use Rattle.cbor_core.specs.declared.item.Item.{Item, out-Item, roll-Item, roll-out-Item}
 use Rattle.cbor_core.specs.declared.item.Item.TheOpen.{Item-F}
 use Rattle.cbor_core.specs.declared.item.Item.TheVariants as items
 use Rattle.key_codec.specs.declared.fault.KeyFault.{KeyFault}
-use Rattle.key_codec.specs.declared.fault.KeyFault.TheVariants as fault
 use Rattle.key_codec.specs.declared.encoding.Form.{Form}
 use Rattle.key_codec.specs.declared.encoding.Form.TheVariants as form
 use Rattle.key_codec.specs.declared.key.CoseKey.{CoseKey}
@@ -17,13 +14,10 @@ use Rattle.key_codec.specs.declared.key.PublicKey.{PublicKey}
 use Rattle.key_codec.specs.Fault.{◌>>=◌, shaped, Says}
 use Rattle.key_codec.specs.Numbers.{within_i64, integer_layer, integer_in, item_of_integer}
 use Rattle.key_codec.specs.Parts.{array_layer, pair_of, triple_of, two_in, three_in, bytes_layer, bytes_in, number_in, all_bytes, labelled, pairs_layer, number_at, bytes_at}
-use Rattle.key_codec.specs.Key.{form_of, form_of_body, chain_of, chain_layer, chain_in, cose_of, cose_in, body_of_form, body_if_known, body_in, key_in, is_curve, IsBody, IsKey, IsCoseMap, IsBodyItem, IsKeyItem}
+use Rattle.key_codec.specs.Key.{form_of, form_of_body, chain_of, chain_layer, chain_in, cose_of, cose_in, body_of_form, body_if_known, body_in, key_in, is_curve, IsBody, IsCoseMap, IsBodyItem, IsKeyItem}
 use Rattle.key_codec.proofs.Back.{number_back, bytes_back, three_back, chain_back, type_fits, encoding_fits, curve_fits}
-use Rattle.key_codec.proofs.Binds.{bind_ok, shaped_ok, ok_is}
-use Rattle.key_codec.proofs.Found.{IsPoint, point_found, IsFrom, key_found, key_is, body_found}
-
-some_is : {A : Type 0} (x y : A) → Some x ≡ Some y → x ≡ y
-some_is x y e = cc
+use Rattle.key_codec.proofs.Binds.{bind_ok, shaped_ok, ok_is, some_is}
+use Rattle.key_codec.proofs.Found.{point_found, key_found, key_is, body_found}
 
 -- an item by its layer
 by_layer : (item y : Item) → roll-Item (out-Item item) ≡ y → item ≡ y
@@ -164,13 +158,18 @@ cose_said : (item : Item) (c : CoseKey) → cose_in item ≡ Ok c → IsBodyItem
 cose_said item c e =
     let p = bind_ok (shaped (pairs_layer (out-Item item))) cose_of c e in
     let q = point_found p.0 c p.2 in
-    let map_is : item ≡ items.Map p.0 = by_layer item (items.Map p.0) (layer_pairs (out-Item item) p.0 (shaped_ok (pairs_layer (out-Item item)) p.0 p.1)) in
-    (p.0, (map_is, record {
-      family = number_label (pos 1) (pos 2) p.0 q.family;
-      curve = number_label (negsuc 0) c.curve p.0 q.number;
-      x = bytes_label (negsuc 1) c.x p.0 q.x;
-      y = bytes_label (negsuc 2) c.y p.0 q.y;
-    }))
+    let map_is : item ≡ items.Map p.0 = by_layer item (items.Map p.0) (layer_pairs (out-Item item) p.0 (shaped_ok (pairs_layer (out-Item item)) p.0 p.1)) in (
+      p.0,
+      (
+        map_is,
+        record {
+          family = number_label (pos 1) (pos 2) p.0 q.family;
+          curve = number_label (negsuc 0) c.curve p.0 q.number;
+          x = bytes_label (negsuc 1) c.x p.0 q.x;
+          y = bytes_label (negsuc 2) c.y p.0 q.y;
+        },
+      ),
+    )
 
 cose_map : (c : CoseKey) (ps : List (Item × Item)) → is_curve c.curve ≡ true → IsCoseMap c ps → cose_of ps ≡ Ok c
 cose_map c ps h m = rw (m.family, m.curve, m.x, m.y, number_back (pos 2) (lit< tt), number_back c.curve (curve_fits c.curve h), bytes_back c.x, bytes_back c.y, h) refl
