@@ -113,6 +113,7 @@ item_of_key key = items.Array (item_of_integer key.kind ∷ item_of_integer key.
 
 -- ---- keys of the form
 
+-- what a body is made of, and what holds of it
 abbrev pub form_of_body : KeyBody → Form
 form_of_body (body.Bytes b) = form.Bytes
 form_of_body (body.Chain bs) = form.Chain
@@ -144,6 +145,7 @@ IsBodyItem (body.Bytes b) item = item ≡ items.Bytes b
 IsBodyItem (body.Chain bs) item = (item ≡ items.Array (map items.Bytes bs)) ⊎ ((b : List ℕ) × ((bs ≡ b ∷ []) × (item ≡ items.Bytes b)))
 IsBodyItem (body.Cose c) item = (ps : List (Item × Item)) × ((item ≡ items.Map ps) × IsCoseMap c ps)
 
+-- an array of the type, the encoding and an item of the body, of a key that is of the form
 pub record IsKeyItem (key : PublicKey) (item : Item) : Type 0 where
   pub form : IsKey key
   pub content : Item
