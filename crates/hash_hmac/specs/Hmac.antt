@@ -10,17 +10,18 @@ use Rattle.hash_hmac.specs.Kind.{hmac_sha256_kind, hmac_sha384_kind}
 abbrev pub key_block : (List ℕ → List ℕ) → ℕ → List ℕ → List ℕ
 key_block hash block secret = padded block (if nat_lt block (length secret) then hash secret else secret)
 
--- H(K XOR opad, H(K XOR ipad, text)), where the key K is a block, ipad is 36 in each byte and opad 5c (section 2)
+-- H(K XOR opad, H(K XOR ipad, text)), where K is the key as a block, ipad the byte 0x36 and opad the byte 0x5c in
+-- each place (section 2)
 unfoldable pub hmac : (List ℕ → List ℕ) → ℕ → List ℕ → List ℕ → List ℕ
 hmac hash block secret text =
     let key = key_block hash block secret in
     hash (xor_all 0x5c key ++ hash (xor_all 0x36 key ++ text))
 
--- HMAC-SHA-256, whose block has 64 bytes (RFC 4231)
+-- HMAC-SHA-256, whose block has 64 bytes (FIPS 180-4, section 1)
 abbrev pub hmac_sha256 : List ℕ → List ℕ → List ℕ
 hmac_sha256 secret text = hmac sha256 64 secret text
 
--- HMAC-SHA-384, whose block has 128 bytes (RFC 4231)
+-- HMAC-SHA-384, whose block has 128 bytes (FIPS 180-4, section 1)
 abbrev pub hmac_sha384 : List ℕ → List ℕ → List ℕ
 hmac_sha384 secret text = hmac sha384 128 secret text
 

@@ -1,5 +1,5 @@
 -- The kinds of hashes and HMACs by their numbers (FIDO Device Onboard 1.1, section 3.3.2; the numbers are COSE's,
--- RFC 9053, section 3.1, and RFC 9054, section 2.1).
+-- RFC 9053, section 3.1, and RFC 9054, section 3.2).
 use Rattle.std.specs.Prelude.{ℕ, ℤ, pos, negsuc, Option, None, Some, ◌||◌, if◌then◌else◌}
 use Rattle.std.specs.Ordering.{int_eq}
 

@@ -2,16 +2,20 @@ ghost use Rattle.std.specs.Prelude.{◌≡◌, ◌≤◌, length};
 
 use crate::bytes::padded;
 
-/// A hash or an HMAC (FIDO Device Onboard 1.1, section 3.3.2). `kind` is its number (`SHA256` and the like), `len`
-/// how many bytes it has, 32 or 48, and `bytes` has them in front and zeros past them.
+/// A hash or an HMAC (FIDO Device Onboard 1.1, section 3.3.2). What `hash_of` and `hmac_of` give is consistent: its
+/// kind is known, its length is the kind's, and the bytes past it are zero. Two are equal where all three parts are;
+/// `==` does not take constant time.
 #[derive(Clone, Copy, Debug, PartialEq, Eq)]
 pub struct Hash {
+    /// The number of its kind: `SHA256`, `SHA384`, `HMAC_SHA256` or `HMAC_SHA384`.
     pub kind: i64,
+    /// How many bytes it has: 32 or 48.
     pub len: u8,
+    /// Its bytes, in the order in which the hash gives them, and zeros past them.
     pub bytes: [u8; 48],
 }
 
-/// An HMAC (RFC 2104), in the form of a hash.
+/// An HMAC (RFC 2104), which has the form of a hash.
 pub type HMac = Hash;
 
 impl Hash {

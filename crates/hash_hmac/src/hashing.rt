@@ -4,17 +4,18 @@ ghost use Rattle.sha2.specs.Sha256.{sha256};
 ghost use Rattle.sha2.specs.Sha512.{sha384};
 ghost use Rattle.hash_hmac.specs.Hashing.{hashed};
 ghost use Rattle.hash_hmac.specs.Kind.{sha256_kind, sha384_kind};
-ghost use Rattle.hash_hmac.specs.Value.{IsConsistent, hash_value};
+ghost use Rattle.hash_hmac.specs.Value.{IsConsistent, content as content_of, hash_value};
 
 use crate::hash::Hash;
 use crate::kind::{SHA256, SHA384};
 use sha2::{Digest, Sha256, Sha384};
 
-/// The hash of two texts in a row (FIPS 180-4): SHA-256 for the kind -16, SHA-384 for -43. The texts have any
-/// length. None where the kind is neither.
+/// The hash of two texts in a row (FIPS 180-4, sections 6.2 and 6.5): SHA-256 for the kind -16, SHA-384 for -43.
+/// Each text has any length, zero too, and neither is copied. None exactly where the kind is neither.
 #[tactic(auto, unfolding(crate::specs::Hashing::hashed))]
 pub fn hash_of(kind: i64, first: &[u8], second: &[u8]) -> Option<Hash>
     ensures value { result ≡ option_map (hash_value kind) (hashed kind (first.now ++ second.now)) }
+    ensures content { option_map content_of result ≡ hashed kind (first.now ++ second.now) }
     ensures none { IsNone result ↔ ((kind ≢ sha256_kind) × (kind ≢ sha384_kind)) }
     ensures consistent { IfSome result IsConsistent }
 {

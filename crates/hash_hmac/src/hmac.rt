@@ -4,7 +4,7 @@ ghost use Rattle.sha2.specs.Sha256.{sha256};
 ghost use Rattle.sha2.specs.Sha512.{sha384};
 ghost use Rattle.hash_hmac.specs.Hmac.{hmac_sha256 as hmac_sha256_of, hmac_sha384 as hmac_sha384_of, key_block, maced};
 ghost use Rattle.hash_hmac.specs.Kind.{hmac_sha256_kind, hmac_sha384_kind};
-ghost use Rattle.hash_hmac.specs.Value.{IsConsistent, hash_value};
+ghost use Rattle.hash_hmac.specs.Value.{IsConsistent, content as content_of, hash_value};
 
 use crate::bytes::{padded, xored};
 use crate::hash::HMac;
@@ -16,11 +16,13 @@ const INNER: u8 = 0x36;
 
 const OUTER: u8 = 0x5c;
 
-/// The HMAC of a text under a secret (RFC 2104): HMAC-SHA-256 for the kind 5, HMAC-SHA-384 for 6. Secret and text
-/// have any length. None where the kind is neither.
+/// The HMAC of a text under a secret (RFC 2104, section 2): HMAC-SHA-256 for the kind 5, HMAC-SHA-384 for 6. Secret
+/// and text have any length, zero too; a secret longer than a block of the hash, 64 or 128 bytes, is hashed first.
+/// None exactly where the kind is neither.
 #[tactic(auto, unfolding(crate::specs::Hmac::maced))]
 pub fn hmac_of(kind: i64, secret: &[u8], text: &[u8]) -> Option<HMac>
     ensures value { result ≡ option_map (hash_value kind) (maced kind secret.now text.now) }
+    ensures content { option_map content_of result ≡ maced kind secret.now text.now }
     ensures none { IsNone result ↔ ((kind ≢ hmac_sha256_kind) × (kind ≢ hmac_sha384_kind)) }
     ensures consistent { IfSome result IsConsistent }
 {

@@ -78,7 +78,7 @@ some_back : (bs : List (List ℕ)) → bs ≢ [] → chain_of bs ≡ Ok bs
 some_back [] h = absurd (h refl)
 some_back (b ∷ bs) h = refl
 
-chain_back : (bs : List (List ℕ)) → bs ≢ [] → chain_in (items.Array (map items.Bytes bs)) ≡ Ok bs
+pub chain_back : (bs : List (List ℕ)) → bs ≢ [] → chain_in (items.Array (map items.Bytes bs)) ≡ Ok bs
 chain_back bs h = ap chain_layer (items.outs-Array (map items.Bytes bs)) ∙ (rw (all_back bs) (some_back bs h))
 
 cose_pairs : (c : CoseKey) → is_curve c.curve ≡ true → cose_of ((items.Uint 1, items.Uint 2) ∷ (items.Nint 0, item_of_integer c.curve) ∷ (items.Nint 1, items.Bytes c.x) ∷ (items.Nint 2, items.Bytes c.y) ∷ []) ≡ Ok c

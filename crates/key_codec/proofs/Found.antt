@@ -1,7 +1,8 @@
 -- What is read is a key of the form.
-use Rattle.std.proofs.Common.{◌≡◌, ℕ, ℤ, pos, negsuc, Bool, true, false, List, [], ◌∷◌, Option, Some, None, Result, Ok, Err, refl, ap, subst}
-use Rattle.std.specs.Prelude.{◌≢◌, ◌&&◌, if◌then◌else◌, IfOk}
+use Rattle.std.proofs.Common.{◌≡◌, ℕ, ℤ, pos, negsuc, Bool, true, false, List, [], ◌∷◌, Option, Some, None, Result, Ok, Err, refl, ap, subst, ◌∙◌}
+use Rattle.std.specs.Prelude.{◌≢◌, ◌&&◌, if◌then◌else◌}
 use Rattle.std.specs.Ordering.{int_eq}
+use Rattle.std.proofs.lemmas.Bool.Decides.{Decides-int_eq}
 use Rattle.cbor_core.specs.declared.item.Item.{Item, out-Item}
 use Rattle.cbor_core.specs.declared.item.Item.TheOpen.{Item-F}
 use Rattle.key_codec.specs.declared.fault.KeyFault.{KeyFault}
@@ -12,7 +13,7 @@ use Rattle.key_codec.specs.declared.key.CoseKey.{CoseKey}
 use Rattle.key_codec.specs.declared.key.KeyBody.{KeyBody}
 use Rattle.key_codec.specs.declared.key.KeyBody.TheVariants as body
 use Rattle.key_codec.specs.declared.key.PublicKey.{PublicKey}
-use Rattle.key_codec.specs.Fault.{◌>>=◌, shaped, Says}
+use Rattle.key_codec.specs.Fault.{◌>>=◌, shaped}
 use Rattle.key_codec.specs.Parts.{three_in, bytes_in, number_in, all_bytes, pairs_layer, number_at, bytes_at}
 use Rattle.key_codec.specs.Key.{is_key_type, form_of, form_of_body, chain_of, chain_layer, chain_in, cose_of, cose_in, body_of_form, body_if_known, body_in, key_of, key_in, is_curve, IsBody, IsKey}
 use Rattle.key_codec.proofs.Binds.{bind_ok, ok_is}
@@ -25,6 +26,10 @@ passed false r d x e = absurd cc
 both : (a b : Bool) → (a && b) ≡ true → b ≡ true
 both true b e = e
 both false b e = absurd cc
+
+first_both : (a b : Bool) → (a && b) ≡ true → a ≡ true
+first_both true b e = refl
+first_both false b e = absurd cc
 
 -- ---- bodies
 
@@ -48,6 +53,8 @@ layer_some (Item-F.Simple n) bs e = absurd cc
 -- what a COSE key was read from
 pub record IsPoint (ps : List (Item × Item)) (c : CoseKey) : Type 0 where
   pub curve : is_curve c.curve ≡ true
+  pub family : number_at (pos 1) ps ≡ Ok (pos 2)
+  pub number : number_at (negsuc 0) ps ≡ Ok c.curve
   pub x : bytes_at (negsuc 1) ps ≡ Ok c.x
   pub y : bytes_at (negsuc 2) ps ≡ Ok c.y
 
@@ -60,7 +67,13 @@ point_found ps c e =
     let y = bind_ok (bytes_at (negsuc 2) ps) (λ y. made f.0 k.0 x.0 y) c x.2 in
     let key : CoseKey = record { curve = k.0; x = x.0; y = y.0 } in
     let p = passed (int_eq f.0 (pos 2) && is_curve k.0) (Ok key) fault.BadShape c y.2 in
-    subst (IsPoint ps) {x = key} (ok_is key c p.1) (record { curve = both (int_eq f.0 (pos 2)) (is_curve k.0) p.0; x = x.1; y = y.1 })
+    subst (IsPoint ps) {x = key} (ok_is key c p.1) (record {
+      curve = both (int_eq f.0 (pos 2)) (is_curve k.0) p.0;
+      family = f.1 ∙ ap Ok ((Decides-int_eq f.0 (pos 2)).0 (first_both (int_eq f.0 (pos 2)) (is_curve k.0) p.0));
+      number = k.1;
+      x = x.1;
+      y = y.1;
+    })
 
 -- a body of a form
 pub record IsOf (f : Form) (b : KeyBody) : Type 0 where
@@ -117,13 +130,3 @@ key_is item key e =
     let from = key_found item key e in
     let b = body_found key.enc from.parts.2 key.body from.body in
     record { kind = from.known; enc = b.0; body = b.1 }
-
--- ---- as readers answer
-
-pub says_key : (item : Item) (r : Result PublicKey KeyFault) → Says (λ key. key) r (key_in item) → IfOk r IsKey
-says_key item (Ok key) h = key_is item key h
-says_key item (Err f) h = tt
-
-pub says_body : (enc : ℤ) (item : Item) (r : Result KeyBody KeyFault) → Says (λ b. b) r (body_in enc item) → IfOk r (λ b. (form_of enc ≡ Some (form_of_body b)) × IsBody b)
-says_body enc item (Ok b) h = body_found enc item b h
-says_body enc item (Err f) h = tt

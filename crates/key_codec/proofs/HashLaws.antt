@@ -15,17 +15,15 @@ use Rattle.key_codec.specs.Fault.{◌>>=◌, shaped}
 use Rattle.key_codec.specs.Numbers.{item_of_integer, IsI64}
 use Rattle.key_codec.specs.Parts.{two_in, bytes_in, number_in}
 use Rattle.key_codec.specs.Hash.{hash_if_known, hash_by_kind, hash_in, item_of_hash}
-use Rattle.key_codec.proofs.Binds.{bind_ok, ok_is}
+use Rattle.key_codec.proofs.Binds.{bind_ok, ok_is, some_is}
 use Rattle.key_codec.proofs.Found.{passed}
+use Rattle.key_codec.proofs.Said.{two_said, number_said, bytes_said, pair_item}
 use Rattle.key_codec.proofs.Back.{number_back, bytes_back, two_back, same_int}
 
 -- a kind that is known
 pub record IsKnown (kind : ℤ) (len : ℕ) : Type 0 where
   pub number : IsI64 kind
   pub short : len ≤ 48
-
-some_is : (m n : ℕ) → Some m ≡ Some n → m ≡ n
-some_is m n e = cc
 
 kinds : (kind : ℤ) (len : ℕ) (a b c d : Bool) → (a ≡ true → IsI64 kind) → (b ≡ true → IsI64 kind) → (c ≡ true → IsI64 kind) → (d ≡ true → IsI64 kind)
     → (if a || b then Some 32 else if c || d then Some 48 else None) ≡ Some len → IsKnown kind len
@@ -86,8 +84,40 @@ hash_is item hash e =
     let b = bind_ok (bytes_in p.0.1) (λ bytes. hash_by_kind k.0 bytes) hash k.2 in
     by_kind_is k.0 b.0 hash b.2
 
-pub answers_hash : (item : Item) (r : Result Hash KeyFault) → r ≡ hash_in item → IfOk r IsConsistent
-answers_hash item (Ok hash) e = hash_is item hash (sym e)
+take_front : (bytes more : List ℕ) → take (length bytes) (bytes ++ more) ≡ bytes
+take_front [] more = refl
+take_front (b ∷ bytes) more = ap (λ t. b ∷ t) (take_front bytes more)
+
+-- what a hash was made of
+record IsMade (kind : ℤ) (bytes : List ℕ) (hash : Hash) : Type 0 where
+  kind_is : kind ≡ hash.kind
+  bytes_is : bytes ≡ content hash
+
+if_known_made : (kind : ℤ) (o : Option ℕ) (bytes : List ℕ) (hash : Hash) → hash_if_known kind o bytes ≡ Ok hash → IsMade kind bytes hash
+if_known_made kind None bytes hash e = absurd cc
+if_known_made kind (Some len) bytes hash e =
+    let p = passed (length bytes == len) (Ok (hash_value kind bytes)) (fault.BadLength (length bytes)) hash e in
+    subst (IsMade kind bytes) (ok_is (hash_value kind bytes) hash p.1) (record { kind_is = refl; bytes_is = sym (take_front bytes (replicate (48 - length bytes) 0)) })
+
+by_kind_made : (kind : ℤ) (bytes : List ℕ) (hash : Hash) → hash_by_kind kind bytes ≡ Ok hash → IsMade kind bytes hash
+unfolding hash_by_kind
+by_kind_made kind bytes hash e = if_known_made kind (length_of kind) bytes hash e
+
+pub hash_said : (item : Item) (hash : Hash) → hash_in item ≡ Ok hash → item ≡ item_of_hash hash
+unfolding hash_in
+hash_said item hash e =
+    let p = bind_ok (two_in item) (λ parts. number_in parts.0 >>= λ kind. bytes_in parts.1 >>= λ bytes. hash_by_kind kind bytes) hash e in
+    let k = bind_ok (number_in p.0.0) (λ kind. bytes_in p.0.1 >>= λ bytes. hash_by_kind kind bytes) hash p.2 in
+    let b = bind_ok (bytes_in p.0.1) (λ bytes. hash_by_kind k.0 bytes) hash k.2 in
+    let made = by_kind_made k.0 b.0 hash b.2 in
+    let whole = two_said item p.0 p.1 in
+    whole ∙ pair_item p.0.0 (item_of_integer hash.kind) p.0.1 (items.Bytes (content hash)) (number_said p.0.0 k.0 k.1 ∙ ap item_of_integer made.kind_is) (bytes_said p.0.1 b.0 b.1 ∙ ap items.Bytes made.bytes_is)
+
+pub hash_read : (item : Item) (hash : Hash) → length hash.bytes ≡ 48 → IsConsistent hash → item ≡ item_of_hash hash → hash_in item ≡ Ok hash
+hash_read item hash all h e = ap hash_in e ∙ hash_back hash all h
+
+pub answers_hash : (item : Item) (r : Result Hash KeyFault) → r ≡ hash_in item → IfOk r (λ hash. IsConsistent hash × (item ≡ item_of_hash hash))
+answers_hash item (Ok hash) e = (hash_is item hash (sym e), hash_said item hash (sym e))
 answers_hash item (Err f) e = tt
 
 pub answers_by_kind : (kind : ℤ) (bytes : List ℕ) (r : Result Hash KeyFault) → r ≡ hash_by_kind kind bytes → IfOk r IsConsistent

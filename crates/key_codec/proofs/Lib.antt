@@ -5,4 +5,5 @@ pub mod Fits
 pub mod Found
 pub mod HashLaws
 pub mod Norms
+pub mod Said
 pub mod SigLaws

@@ -20,16 +20,16 @@ use Rattle.key_codec.specs.Key.{item_of_cose, item_of_body, item_of_key}
 use Rattle.key_codec.specs.Hash.{item_of_hash}
 use Rattle.key_codec.specs.SigInfo.{item_of_sig_info}
 
-norm_uint : (n : ℕ) → norm (items.Uint n) ≡ items.Uint n
+pub norm_uint : (n : ℕ) → norm (items.Uint n) ≡ items.Uint n
 norm_uint n = ap norm (sym (items.rolls-Uint n)) ∙ fold-roll-Item Item norm_step (Item-F.Uint n)
 
 norm_nint : (n : ℕ) → norm (items.Nint n) ≡ items.Nint n
 norm_nint n = ap norm (sym (items.rolls-Nint n)) ∙ fold-roll-Item Item norm_step (Item-F.Nint n)
 
-norm_bytes : (b : List ℕ) → norm (items.Bytes b) ≡ items.Bytes b
+pub norm_bytes : (b : List ℕ) → norm (items.Bytes b) ≡ items.Bytes b
 norm_bytes b = ap norm (sym (items.rolls-Bytes b)) ∙ fold-roll-Item Item norm_step (Item-F.Bytes b)
 
-norm_array : (xs : List Item) → norm (items.Array xs) ≡ items.Array (map norm xs)
+pub norm_array : (xs : List Item) → norm (items.Array xs) ≡ items.Array (map norm xs)
 norm_array xs = ap norm (sym (items.rolls-Array xs)) ∙ fold-roll-Item Item norm_step (Item-F.Array xs)
 
 norm_map : (ps : List (Item × Item)) → norm (items.Map ps) ≡ items.Map (in_order (map norm_pair ps))
@@ -41,7 +41,7 @@ det_uint n = ap det (sym (items.rolls-Uint n)) ∙ fold-roll-Item (List ℕ) det
 det_nint : (n : ℕ) → det (items.Nint n) ≡ head 1 n
 det_nint n = ap det (sym (items.rolls-Nint n)) ∙ fold-roll-Item (List ℕ) det_step (Item-F.Nint n)
 
-norm_integer : (n : ℤ) → norm (item_of_integer n) ≡ item_of_integer n
+pub norm_integer : (n : ℤ) → norm (item_of_integer n) ≡ item_of_integer n
 norm_integer (pos n) = norm_uint n
 norm_integer (negsuc n) = norm_nint n
 
@@ -60,7 +60,7 @@ norm_cose c =
     ∙ (rw (norm_uint 1, norm_uint 2, norm_nint 0, norm_nint 1, norm_nint 2, norm_integer c.curve, norm_bytes c.x, norm_bytes c.y)
     (ap items.Map (four_in_order (items.Uint 2) (item_of_integer c.curve) (items.Bytes c.x) (items.Bytes c.y))))
 
-norm_body : (b : KeyBody) → norm (item_of_body b) ≡ item_of_body b
+pub norm_body : (b : KeyBody) → norm (item_of_body b) ≡ item_of_body b
 norm_body (body.Bytes b) = norm_bytes b
 norm_body (body.Chain bs) = norm_array (map items.Bytes bs) ∙ ap items.Array (norm_all bs)
 norm_body (body.Cose c) = norm_cose c

@@ -1,4 +1,4 @@
--- Hashes and HMACs (FIDO Device Onboard 1.1, section 3.3.2): an array of a kind and bytes.
+-- Hashes and HMACs (FIDO Device Onboard 1.1, "Hash / HMac"): an array of a kind and bytes.
 use Rattle.std.specs.Prelude.{ℕ, ℤ, List, [], ◌∷◌, length, ◌==◌, Option, Some, None, Result, Ok, Err, if◌then◌else◌}
 use Rattle.cbor_core.specs.declared.item.Item.{Item}
 use Rattle.cbor_core.specs.declared.item.Item.TheVariants as items

@@ -1,5 +1,5 @@
--- Public keys (FIDO Device Onboard 1.1, section 3.3.4): an array of a type, an encoding and a body.
-use Rattle.std.specs.Prelude.{◌≡◌, ◌≢◌, ℕ, ℤ, pos, negsuc, List, [], ◌∷◌, map, Bool, true, ◌&&◌, ◌||◌, Option, Some, None, Result, Ok, Err, if◌then◌else◌}
+-- Public keys (FIDO Device Onboard 1.1, "Public Key"): an array of a type, an encoding and a body.
+use Rattle.std.specs.Prelude.{◌≡◌, ◌≢◌, ◌⊎◌, ℕ, ℤ, pos, negsuc, List, [], ◌∷◌, map, Bool, true, ◌&&◌, ◌||◌, Option, Some, None, Result, Ok, Err, if◌then◌else◌}
 use Rattle.std.specs.List.{list_any}
 use Rattle.std.specs.Ordering.{int_eq}
 use Rattle.cbor_core.specs.declared.item.Item.{Item, out-Item}
@@ -15,7 +15,7 @@ use Rattle.key_codec.specs.declared.key.KeyBody.TheVariants as body
 use Rattle.key_codec.specs.declared.key.PublicKey.{PublicKey}
 use Rattle.key_codec.specs.Fault.{◌>>=◌, shaped}
 use Rattle.key_codec.specs.Numbers.{item_of_integer}
-use Rattle.key_codec.specs.Parts.{three_in, bytes_in, number_in, all_bytes, pairs_layer, number_at, bytes_at}
+use Rattle.key_codec.specs.Parts.{three_in, bytes_in, number_in, all_bytes, labelled, pairs_layer, number_at, bytes_at}
 
 -- ---- types
 
@@ -113,6 +113,7 @@ item_of_key key = items.Array (item_of_integer key.kind ∷ item_of_integer key.
 
 -- ---- keys of the form
 
+-- what a body is made of, and what holds of it
 abbrev pub form_of_body : KeyBody → Form
 form_of_body (body.Bytes b) = form.Bytes
 form_of_body (body.Chain bs) = form.Chain
@@ -128,3 +129,25 @@ pub record IsKey (key : PublicKey) : Type 0 where
   pub kind : is_key_type key.kind ≡ true
   pub enc : form_of key.enc ≡ Some (form_of_body key.body)
   pub body : IsBody key.body
+
+-- ---- the items that a key can be read from
+
+-- a map with the labels of a COSE key, and others
+pub record IsCoseMap (c : CoseKey) (ps : List (Item × Item)) : Type 0 where
+  pub family : labelled (pos 1) ps ≡ Some (items.Uint 2)
+  pub curve : labelled (negsuc 0) ps ≡ Some (item_of_integer c.curve)
+  pub x : labelled (negsuc 1) ps ≡ Some (items.Bytes c.x)
+  pub y : labelled (negsuc 2) ps ≡ Some (items.Bytes c.y)
+
+-- a chain of one also stands as a byte string, and a COSE key in any map with its labels
+abbrev pub IsBodyItem : KeyBody → Item → Type 0
+IsBodyItem (body.Bytes b) item = item ≡ items.Bytes b
+IsBodyItem (body.Chain bs) item = (item ≡ items.Array (map items.Bytes bs)) ⊎ ((b : List ℕ) × ((bs ≡ b ∷ []) × (item ≡ items.Bytes b)))
+IsBodyItem (body.Cose c) item = (ps : List (Item × Item)) × ((item ≡ items.Map ps) × IsCoseMap c ps)
+
+-- an array of the type, the encoding and an item of the body, of a key that is of the form
+pub record IsKeyItem (key : PublicKey) (item : Item) : Type 0 where
+  pub form : IsKey key
+  pub content : Item
+  pub body : IsBodyItem key.body content
+  pub array : item ≡ items.Array (item_of_integer key.kind ∷ item_of_integer key.enc ∷ content ∷ [])

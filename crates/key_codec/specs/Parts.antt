@@ -49,7 +49,7 @@ abbrev pub is_number : ℤ → Option ℤ → Bool
 is_number label (Some n) = int_eq n label
 is_number label None = false
 
--- the value beside the first key that is the label; in a map that was read, no two keys are equal
+-- the value beside the first key that is the label; in a map that was read from bytes, no two keys are equal
 abbrev pub labelled : ℤ → List (Item × Item) → Option Item
 labelled label [] = None
 labelled label (p ∷ ps) = if is_number label (integer_in p.0) then Some p.1 else labelled label ps

@@ -1,4 +1,4 @@
--- Signature information (FIDO Device Onboard 1.1, section 3.3.7): an array of a number and bytes.
+-- Signature information (FIDO Device Onboard 1.1, "SigInfo"): an array of a number and bytes.
 use Rattle.std.specs.Prelude.{[], ◌∷◌, Result, Ok}
 use Rattle.cbor_core.specs.declared.item.Item.{Item}
 use Rattle.cbor_core.specs.declared.item.Item.TheVariants as items

@@ -1,6 +1,7 @@
-ghost use Rattle.std.specs.Prelude.{◌≡◌, ◌≢◌, ◌≤◌, ◌++◌, length, drop, Err, IfOk};
+ghost use Rattle.std.specs.Prelude.{◌≡◌, ◌≢◌, ◌≤◌, ◌++◌, length, drop, Ok, Err, IfOk};
 ghost use Rattle.hash_hmac.specs.Bytes.{padded};
 ghost use Rattle.hash_hmac.specs.Value.{content, IsConsistent};
+ghost use Rattle.hash_hmac.specs.declared.hash.Hash.{Hash};
 ghost use Rattle.key_codec.specs.declared.fault.KeyFault.TheVariants.{NoMemory as OutOfMemory};
 ghost use Rattle.key_codec.specs.Hash.{hash_by_kind, hash_in, item_of_hash};
 
@@ -11,15 +12,17 @@ use cbor_core::{Blob, Item, Items, NoMemory};
 use hash_hmac::{Hash, length_of};
 use std::alloc::Global;
 
-/// The hash or HMAC that an item says (FIDO Device Onboard 1.1, section 3.3.2). The faults come in this order: the
+/// The hash or HMAC that an item says (FIDO Device Onboard 1.1, "Hash / HMac"). The faults come in this order: the
 /// shape of the array, its number and its byte string, the kind, the length. It takes no memory.
 pub fn read_hash(item: &Item) -> Result<Hash, KeyFault>
-    // The hash, or which fault it is.
+    // What is read is a consistent hash, and the item is the one that it is written as.
+    ensures found { IfOk result (λ hash. IsConsistent hash × (item.now ≡ item_of_hash hash)) }
+    // The item of a consistent hash is read as that hash.
+    ensures only { (hash : Hash) → length hash.bytes ≡ 48 → IsConsistent hash → item.now ≡ item_of_hash hash → result ≡ Ok hash }
+    // Which fault it is.
     ensures exact { result ≡ hash_in item.now }
     // It takes no memory.
     ensures memory { result ≢ Err OutOfMemory }
-    // What is read is consistent.
-    ensures is { IfOk result IsConsistent }
 {
     hash_at(item)
 }

@@ -4,7 +4,7 @@ use crate::chain::X5Chain;
 use cbor_core::{Blob, NoMemory};
 use std::alloc::Global;
 
-/// A public key (FIDO Device Onboard 1.1, section 3.3.4).
+/// A public key (FIDO Device Onboard 1.1, "Public Key").
 #[derive(Debug, Drop)]
 pub struct PublicKey {
     /// The type, as `SECP256R1`.

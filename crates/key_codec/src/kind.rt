@@ -22,7 +22,7 @@ pub const LABORATORY: i64 = 200;
 /// Signatures by hash trees (RFC 8554), of our own.
 pub const HSS_LMS: i64 = 201;
 
-/// Whether a number is a type of key (FIDO Device Onboard 1.1, section 3.3.4), or one of the two of our own.
+/// Whether a number is a type of key (FIDO Device Onboard 1.1, "Public Key"), or one of the two of our own.
 pub fn is_key_type(kind: i64) -> bool
     ensures { result ≡ is_known_type kind }
 {

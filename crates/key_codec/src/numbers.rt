@@ -1,5 +1,5 @@
-ghost use Rattle.std.specs.Prelude.{◌≡◌};
-ghost use Rattle.key_codec.specs.Numbers.{integer_in, item_of_integer};
+ghost use Rattle.std.specs.Prelude.{◌≡◌, pos};
+ghost use Rattle.key_codec.specs.Numbers.{integer_in, item_of_integer, within_i64};
 
 use cbor_core::Item;
 
@@ -8,16 +8,19 @@ pub fn integer(item: &Item) -> Option<i64>
     ensures { result ≡ integer_in item.now }
 {
     match item {
-        Item::Uint(n) => { if *n < 1 << 63 { Some(*n as i64) } else { None } }
-        Item::Nint(n) => {
-            if *n < 1 << 63 {
-                Some(-1 - (*n as i64))
-            } else {
-                None
-            }
-        }
+        Item::Uint(n) => within(*n),
+        Item::Nint(n) => match within(*n) {
+            Some(n) => Some(-1 - n),
+            None => None,
+        },
         _ => None,
     }
+}
+
+fn within(n: u64) -> Option<i64>
+    ensures { result ≡ within_i64 n (pos n) }
+{
+    i64::try_from(n).ok()
 }
 
 /// A number as an item.

@@ -1,8 +1,10 @@
-ghost use Rattle.std.specs.Prelude.{◌≡◌, ℕ, suc, Some, IfOk};
+ghost use Rattle.std.specs.Prelude.{◌≡◌, ℕ, suc, Some, Ok, IfOk};
 ghost use Rattle.cbor_core.specs.Norm.{IsFit, IsFitWithin};
 ghost use Rattle.key_codec.specs.Fault.{Says};
 ghost use Rattle.key_codec.specs.Parts.{all_bytes};
-ghost use Rattle.key_codec.specs.Key.{chain_in, cose_in, cose_of, form_of, form_of_body, is_curve as is_known_curve, item_of_body, item_of_key, body_of_form, body_in, key_in, IsBody, IsKey};
+ghost use Rattle.key_codec.specs.Key.{chain_in, cose_in, cose_of, form_of, form_of_body, is_curve as is_known_curve, item_of_body, item_of_key, body_of_form, body_in, key_in, IsBody, IsBodyItem, IsKeyItem};
+ghost use Rattle.key_codec.specs.declared.key.KeyBody.{KeyBody};
+ghost use Rattle.key_codec.specs.declared.key.PublicKey.{PublicKey};
 
 use crate::chain::X5Chain;
 use crate::encoding::Form;
@@ -13,13 +15,15 @@ use crate::parts::{bytes, labelled_bytes, labelled_number, number, three};
 use cbor_core::{Blob, Item};
 use std::alloc::Global;
 
-/// The key that an item says (FIDO Device Onboard 1.1, section 3.3.4). The faults come in this order: the shape of the
+/// The key that an item says (FIDO Device Onboard 1.1, "Public Key"). The faults come in this order: the shape of the
 /// array and its two numbers, the type, the encoding, the shape of the body.
 pub fn read_key(alloc: Global, item: &Item) -> Result<PublicKey, KeyFault>
-    // The key, or which fault it is.
+    // What is read is a key of the form, and the item is one of its items.
+    ensures found { IfOk result (λ key. IsKeyItem key item.now) }
+    // Such an item is read as that key, unless memory runs out.
+    ensures only { (key : PublicKey) → IsKeyItem key item.now → Says {Y = PublicKey} (λ key. key) result (Ok key) }
+    // Which fault it is.
     ensures exact { Says (λ key. key) result (key_in item.now) }
-    // What is read is of the form.
-    ensures is { IfOk result IsKey }
     // What is read of a fit item is fit to be written.
     ensures fit { IsFit item.now → IfOk result (λ key. IsFit (item_of_key key)) }
 {
@@ -42,10 +46,12 @@ fn key_at(alloc: Global, item: &Item) -> Result<PublicKey, KeyFault>
 
 /// The body that an item says by an encoding. The encoding comes first, then the shape.
 pub fn read_key_body(alloc: Global, enc: i64, item: &Item) -> Result<KeyBody, KeyFault>
-    // The body, or which fault it is.
+    // What is read is of the encoding's form, and the item is one of the body's items.
+    ensures found { IfOk result (λ body. (form_of enc ≡ Some (form_of_body body)) × (IsBody body × IsBodyItem body item.now)) }
+    // Such an item is read as that body, unless memory runs out.
+    ensures only { (body : KeyBody) → form_of enc ≡ Some (form_of_body body) → IsBody body → IsBodyItem body item.now → Says {Y = KeyBody} (λ body. body) result (Ok body) }
+    // Which fault it is.
     ensures exact { Says (λ body. body) result (body_in enc item.now) }
-    // What is read is of the encoding's form.
-    ensures is { IfOk result (λ body. (form_of enc ≡ Some (form_of_body body)) × IsBody body) }
     // What is read of a fit item is fit to be written.
     ensures fit { (n : ℕ) → IsFitWithin (suc (suc n)) item.now → IfOk result (λ body. IsFitWithin (suc (suc n)) (item_of_body body)) }
 {
@@ -121,6 +127,7 @@ fn read_cose(item: &Item) -> Result<CoseKey, KeyFault>
     }
 }
 
+/// The point that a map says. Other labels are read over, and of two pairs with the same label the first counts.
 fn read_pairs(pairs: &[(Item, Item)]) -> Result<CoseKey, KeyFault>
     ensures { Says (λ key. key) result (cose_of pairs.now) }
 {

@@ -1,6 +1,8 @@
-ghost use Rattle.std.specs.Prelude.{◌≡◌, IfOk};
+ghost use Rattle.std.specs.Prelude.{◌≡◌, Ok, IfOk};
 ghost use Rattle.cbor_core.specs.Norm.{IsFit};
+ghost use Rattle.key_codec.specs.declared.sig_info.SigInfo.{SigInfo};
 ghost use Rattle.key_codec.specs.Fault.{Says};
+ghost use Rattle.key_codec.specs.Numbers.{IsI64};
 ghost use Rattle.key_codec.specs.SigInfo.{sig_info_in, item_of_sig_info};
 
 use crate::fault::KeyFault;
@@ -9,7 +11,7 @@ use crate::parts::{bytes, number, two};
 use cbor_core::{Blob, Item, Items, NoMemory};
 use std::alloc::Global;
 
-/// How a device signs (FIDO Device Onboard 1.1, section 3.3.7).
+/// How a device signs (FIDO Device Onboard 1.1, "SigInfo").
 #[derive(Debug, Drop)]
 pub struct SigInfo {
     /// The number of the algorithm.
@@ -31,7 +33,11 @@ impl SigInfo {
 
 /// The signature information that an item says. Its only faults are `BadShape` and `NoMemory`.
 pub fn read_sig_info(alloc: Global, item: &Item) -> Result<SigInfo, KeyFault>
-    // The information, or which fault it is.
+    // What is read is written as this very item.
+    ensures found { IfOk result (λ sig. item.now ≡ item_of_sig_info sig) }
+    // The item of signature information is read as that information, unless memory runs out.
+    ensures only { (sig : SigInfo) → IsI64 sig.kind → item.now ≡ item_of_sig_info sig → Says {Y = SigInfo} (λ sig. sig) result (Ok sig) }
+    // Which fault it is.
     ensures exact { Says (λ sig. sig) result (sig_info_in item.now) }
     // What is read of a fit item is fit to be written.
     ensures fit { IsFit item.now → IfOk result (λ sig. IsFit (item_of_sig_info sig)) }
