@@ -4,3 +4,4 @@ pub mod RowSteps
 pub mod RunMore
 pub mod BodyLaws
 pub mod RowLaws
+pub mod BackLaws

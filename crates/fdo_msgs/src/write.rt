@@ -1,7 +1,9 @@
 ghost use Rattle.std.specs.Prelude.{◌≡◌, map, IfOk};
 ghost use Rattle.cbor_core.specs.declared.item.Item.TheVariants as items;
 ghost use Rattle.fdo_msgs.specs.Field.{item_of_field, item_of_mfg};
-ghost use Rattle.fdo_msgs.specs.Body.{item_of, body_of};
+ghost use Rattle.fdo_msgs.specs.Body.{IsBody, item_of, body_of};
+ghost use Rattle.fdo_msgs.specs.Fit.{IsMsg, norm_msg};
+ghost use Rattle.fdo_msgs.specs.Said.{kind_of};
 
 use crate::field::Field;
 use crate::message::fields;
@@ -12,7 +14,9 @@ use std::alloc::Global;
 
 /// The body of a message, in the deterministic encoding.
 pub fn write_body(alloc: Global, message: &Msg) -> Result<Blob, NoMemory>
-    ensures { IfOk result (λ body. body ≡ body_of message.now) }
+    ensures value { IfOk result (λ body. body ≡ body_of message.now) }
+    // It says the message, whose maps are in order then, where each part of the message is of its form.
+    ensures said { IfOk result (λ body. IsMsg message.now → IsBody (kind_of message.now) body (norm_msg message.now)) }
 {
     let item = message_item(alloc, message)?;
     write_det(alloc, &item)
