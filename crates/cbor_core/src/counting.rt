@@ -46,7 +46,7 @@ pub(crate) fn count_pairs(total: usize, levels: u8, bytes: &[u8]) -> Option<u64>
         if is_break(rest) {
             return Some(turn as u64);
         }
-        match pass_two(total, levels, rest) {
+        match pass_two(None, total, levels, rest) {
             Ok(after) => rest = after,
             Err(_) => return None,
         }

@@ -37,7 +37,8 @@ pub struct Cursor<'a> {
 }
 
 impl<'a> Cursor<'a> {
-    /// The item at the front of the bytes, and how many bytes it takes: the answers of `read_wire`.
+    /// The item at the front of the bytes, and how many bytes it takes: the answers of `read_wire`. Memory is taken
+    /// for the keys of maps that have several, which are compared, and for nothing else.
     pub fn open(alloc: Global, bytes: &'a [u8]) -> Result<(Cursor<'a>, usize), CborFault>
         ensures ok { IfOk result (λ p. (x : Item) × (first_item false bytes.now ≡ Ok (x, p.1)) × Stands p.0 bytes.now x (take p.1 bytes.now) [] × (p.0.at ≡ 0)) }
         ensures err { IfErr result (λ e. Fails e (first_item false bytes.now)) }

@@ -1,14 +1,18 @@
-ghost use Rattle.std.specs.Prelude.{◌≡◌, [], length, is_some, false, IfErr, Err};
+ghost use Rattle.std.specs.Prelude.{◌≡◌, [], length, is_some, true, false, IfErr, Err};
 ghost use Rattle.cbor_core.specs.declared.head.Major.TheVariants as major;
-ghost use Rattle.cbor_core.specs.Reading.{Gives, Fails, buried_in, row_at, open_at};
-ghost use Rattle.cbor_core.specs.Passing.{pass_content, pass_chunk, pass_step, pass_pair, pass_pairs, pass_open_pairs, pass_sized, pass_open, pass_in, pass_at};
+ghost use Rattle.cbor_core.specs.Reading.{Gives, Fails, buried_in, row_at, open_at, item_at};
+ghost use Rattle.cbor_core.specs.Passing.{pass_content, pass_chunk, pass_step, pass_pair, spelled_at, fresh_step, forgotten, pass_pairs, pass_open_pairs, pass_sized, pass_open, pass_in, pass_at};
 
+use crate::blob::Blob;
 use crate::fault::CborFault;
 use crate::head::{Head, Major};
-use crate::read::{read_open_pairs, read_pairs, refuse_buried};
+use crate::keys::admit;
+use crate::read::{read_item, refuse_buried};
 use crate::read_head::read_head;
 use crate::strings::{is_break, read_byte_chunk, read_bytes, read_text, read_text_chunk};
+use crate::write::write_det;
 use std::alloc::Global;
+use std::collections::BTreeSet;
 
 /// The bytes after the item at the front, with so many levels left for it. With an allocator the answers are those
 /// of reading. Without one the bytes are to spell an item, nothing is allocated, and keys are not compared.
@@ -146,6 +150,7 @@ fn pass_open_items(
 }
 
 #[cycle(passing)]
+#[tactic(auto, using(crate::proofs::Passes::one_passes))]
 fn pass_map(
     alloc: Option<Global>,
     total: usize,
@@ -158,8 +163,11 @@ fn pass_map(
 {
     match alloc {
         Some(memory) => {
-            let (_pairs, rest) = read_pairs(memory, false, total, levels, n, bytes)?;
-            Ok(rest)
+            if n == 1 {
+                pass_two(alloc, total, levels, bytes)
+            } else {
+                pass_fresh_pairs(memory, total, levels, n, bytes)
+            }
         }
         None => pass_keyed(total, levels, n, bytes),
     }
@@ -176,12 +184,88 @@ fn pass_open_map(
     ensures exact { is_some alloc ≡ false → IfErr result (λ e. (pass_open_pairs (is_some alloc) total levels (pass_at (is_some alloc) total levels) bytes.now) ≡ Err e) }
 {
     match alloc {
-        Some(memory) => {
-            let (_pairs, rest) = read_open_pairs(memory, false, total, levels, bytes)?;
-            Ok(rest)
-        }
+        Some(memory) => pass_fresh_to_break(memory, total, levels, bytes),
         None => pass_open_keyed(total, levels, bytes),
     }
+}
+
+/// Pairs whose keys are compared.
+#[cycle(passing)]
+#[tactic(auto, using(crate::proofs::Loops::row_more, crate::proofs::Loops::row_fails, crate::proofs::Loops::row_ends, crate::proofs::Passes::fails_forgotten))]
+fn pass_fresh_pairs(
+    alloc: Global,
+    total: usize,
+    levels: u8,
+    n: u64,
+    bytes: &[u8],
+) -> Result<&[u8], CborFault>
+    ensures { Gives (λ rest. (tt, rest.now)) result (forgotten (row_at (fresh_step total (item_at false total levels) (pass_at true total levels)) n [] bytes.now)) }
+{
+    let mut keys = BTreeSet::new(alloc);
+    let mut rest = bytes;
+    for _turn in 0..n {
+        match pass_fresh(alloc, total, levels, &mut keys, rest) {
+            Ok(after) => rest = after,
+            Err(fault) => return Err(fault),
+        }
+    }
+    Ok(rest)
+}
+
+/// Pairs up to a break, whose keys are compared.
+#[cycle(passing)]
+#[tactic(auto, using(crate::proofs::Loops::open_more, crate::proofs::Loops::open_fails, crate::proofs::Loops::open_ends, crate::proofs::Loops::open_over, crate::proofs::Passes::fails_forgotten))]
+fn pass_fresh_to_break(
+    alloc: Global,
+    total: usize,
+    levels: u8,
+    bytes: &[u8],
+) -> Result<&[u8], CborFault>
+    ensures { Gives (λ rest. (tt, rest.now)) result (forgotten (open_at (fresh_step total (item_at false total levels) (pass_at true total levels)) total (length bytes.now) [] bytes.now)) }
+{
+    let mut keys = BTreeSet::new(alloc);
+    let mut rest = bytes;
+    for _turn in 0..bytes.len() {
+        if is_break(rest) {
+            return Ok(rest.split_at(1).1);
+        }
+        match pass_fresh(alloc, total, levels, &mut keys, rest) {
+            Ok(after) => rest = after,
+            Err(fault) => return Err(fault),
+        }
+    }
+    Err(CborFault::Truncated(total))
+}
+
+/// A key, whose spelling joins those of the keys before it, and its value.
+#[cycle(passing)]
+#[tactic(auto, unfolding(crate::specs::Passing::fresh_step))]
+fn pass_fresh<'a>(
+    alloc: Global,
+    total: usize,
+    levels: u8,
+    keys: &mut BTreeSet<Blob>,
+    bytes: &'a [u8],
+) -> Result<&'a [u8], CborFault>
+    ensures { Gives (λ rest. (keys.new.keys, rest.now)) result (fresh_step total (item_at false total levels) (pass_at true total levels) keys.old.keys bytes.now) }
+{
+    let place = total.saturating_sub(bytes.len());
+    let (key, value) = read_spelling(alloc, total, levels, bytes)?;
+    admit(false, place, keys, key)?;
+    pass_item(Some(alloc), total, levels, value)
+}
+
+/// The deterministic spelling of the item at the front.
+fn read_spelling(
+    alloc: Global,
+    total: usize,
+    levels: u8,
+    bytes: &[u8],
+) -> Result<(Blob, &[u8]), CborFault>
+    ensures { Gives (λ x. (x.0, x.1.now)) result (spelled_at (item_at false total levels) bytes.now) }
+{
+    let (item, rest) = read_item(alloc, false, total, levels, bytes)?;
+    Ok((write_det(alloc, &item)?, rest))
 }
 
 #[cycle(passing)]
@@ -192,7 +276,7 @@ fn pass_keyed(total: usize, levels: u8, n: u64, bytes: &[u8]) -> Result<&[u8], C
 {
     let mut rest = bytes;
     for _turn in 0..n {
-        match pass_two(total, levels, rest) {
+        match pass_two(None, total, levels, rest) {
             Ok(after) => rest = after,
             Err(fault) => return Err(fault),
         }
@@ -211,7 +295,7 @@ fn pass_open_keyed(total: usize, levels: u8, bytes: &[u8]) -> Result<&[u8], Cbor
         if is_break(rest) {
             return Ok(rest.split_at(1).1);
         }
-        match pass_two(total, levels, rest) {
+        match pass_two(None, total, levels, rest) {
             Ok(after) => rest = after,
             Err(fault) => return Err(fault),
         }
@@ -221,12 +305,17 @@ fn pass_open_keyed(total: usize, levels: u8, bytes: &[u8]) -> Result<&[u8], Cbor
 
 /// A key and its value.
 #[cycle(passing)]
-pub(crate) fn pass_two(total: usize, levels: u8, bytes: &[u8]) -> Result<&[u8], CborFault>
-    ensures gives { Gives (λ rest. (tt, rest.now)) result (pass_pair (pass_at false total levels) tt bytes.now) }
-    ensures exact { IfErr result (λ e. (pass_pair (pass_at false total levels) tt bytes.now) ≡ Err e) }
+pub(crate) fn pass_two(
+    alloc: Option<Global>,
+    total: usize,
+    levels: u8,
+    bytes: &[u8],
+) -> Result<&[u8], CborFault>
+    ensures gives { Gives (λ rest. (tt, rest.now)) result (pass_pair (pass_at (is_some alloc) total levels) tt bytes.now) }
+    ensures exact { is_some alloc ≡ false → IfErr result (λ e. (pass_pair (pass_at (is_some alloc) total levels) tt bytes.now) ≡ Err e) }
 {
-    let value = pass_item(None, total, levels, bytes)?;
-    pass_item(None, total, levels, value)
+    let value = pass_item(alloc, total, levels, bytes)?;
+    pass_item(alloc, total, levels, value)
 }
 
 fn pass_bytes(alloc: Option<Global>, place: usize, n: u64, rest: &[u8]) -> Result<&[u8], CborFault>

@@ -298,7 +298,7 @@ fn next_item<'a>(
 
 #[cycle(reading)]
 #[tactic(auto, using(crate::proofs::Loops::row_more, crate::proofs::Loops::row_fails, crate::proofs::Loops::row_ends))]
-pub(crate) fn read_pairs(
+fn read_pairs(
     alloc: Global,
     strict: bool,
     total: usize,
@@ -322,7 +322,7 @@ pub(crate) fn read_pairs(
 
 #[cycle(reading)]
 #[tactic(auto, using(crate::proofs::Loops::open_more, crate::proofs::Loops::open_fails, crate::proofs::Loops::open_ends, crate::proofs::Loops::open_over))]
-pub(crate) fn read_open_pairs(
+fn read_open_pairs(
     alloc: Global,
     strict: bool,
     total: usize,
