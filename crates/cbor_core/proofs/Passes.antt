@@ -228,7 +228,7 @@ open_pairs_pass false total levels one rest = open_passes false (pass_pair (pass
 
 inside_passes : (c : Bool) (total levels : ℕ) → ((bytes : List ℕ) → Passes c (pass_at c total levels bytes) (item_at false total levels bytes)) → (place : ℕ) (h : Head) (rest : List ℕ)
     → Passes c (pass_in c total levels (pass_at c total levels) place h rest) (item_in false total (item_at false total levels) place h rest)
-inside_passes c total levels one place (heads.Sized m n s) rest = sized_passes c total levels one (pairs_pass c total levels one) place m n s rest
+inside_passes c total levels one place (heads.Sized m s n) rest = sized_passes c total levels one (pairs_pass c total levels one) place m n s rest
 inside_passes c total levels one place (heads.Open m) rest = loose_passes c total levels one (open_pairs_pass c total levels one) place m rest
 inside_passes c total levels one place (heads.Simple n) rest = refl
 inside_passes c total levels one place heads.Float rest = λ t. refl

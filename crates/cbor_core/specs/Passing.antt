@@ -74,7 +74,7 @@ pass_open checked total levels pass place major.Map rest = pass_open_pairs check
 pass_open checked total levels pass place _ rest = Err (fault.Malformed place)
 
 abbrev pub pass_in : Bool → ℕ → ℕ → (List ℕ → Read (Unit {0})) → ℕ → Head → List ℕ → Read (Unit {0})
-pass_in checked total levels pass place (heads.Sized m n s) rest = pass_sized checked total levels pass place m n rest
+pass_in checked total levels pass place (heads.Sized m s n) rest = pass_sized checked total levels pass place m n rest
 pass_in checked total levels pass place (heads.Open m) rest = pass_open checked total levels pass place m rest
 pass_in checked total levels pass place (heads.Simple n) rest = Ok (tt, rest)
 pass_in checked total levels pass place heads.Float rest = Err (fault.Float place)

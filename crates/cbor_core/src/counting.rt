@@ -12,8 +12,8 @@ pub(crate) fn find_count(total: usize, levels: u8, head: Head, rest: &[u8]) -> O
     ensures { CountBehind total levels head rest.now result }
 {
     match head {
-        Head::Sized(Major::Array, n, _) => Some(n),
-        Head::Sized(Major::Map, n, _) => Some(n),
+        Head::Sized(Major::Array, _, n) => Some(n),
+        Head::Sized(Major::Map, _, n) => Some(n),
         Head::Open(Major::Array) => count_items(total, levels, rest),
         Head::Open(Major::Map) => count_pairs(total, levels, rest),
         _ => None,

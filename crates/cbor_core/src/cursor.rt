@@ -200,8 +200,8 @@ fn find_entry(head: Head) -> Entry
     ensures { result ≡ entry_of head }
 {
     match head {
-        Head::Sized(Major::Array, n, _) => Entry::Counted(n),
-        Head::Sized(Major::Map, n, _) => Entry::Counted(n.saturating_mul(2)),
+        Head::Sized(Major::Array, _, n) => Entry::Counted(n),
+        Head::Sized(Major::Map, _, n) => Entry::Counted(n.saturating_mul(2)),
         Head::Sized(Major::Tag, _, _) => Entry::Counted(1),
         Head::Open(Major::Array) => Entry::ToBreak,
         Head::Open(Major::Map) => Entry::ToBreak,
@@ -270,9 +270,9 @@ fn find_number(head: Head) -> Option<u64>
     ensures { result ≡ head_number head }
 {
     match head {
-        Head::Sized(Major::Unsigned, n, _) => Some(n),
-        Head::Sized(Major::Negative, n, _) => Some(n),
-        Head::Sized(Major::Tag, n, _) => Some(n),
+        Head::Sized(Major::Unsigned, _, n) => Some(n),
+        Head::Sized(Major::Negative, _, n) => Some(n),
+        Head::Sized(Major::Tag, _, n) => Some(n),
         Head::Simple(value) => Some(value as u64),
         _ => None,
     }
@@ -282,8 +282,8 @@ pub(crate) fn find_content(head: Head, rest: &[u8]) -> Option<&[u8]>
     ensures { option_copied result ≡ content_in head rest.now }
 {
     match head {
-        Head::Sized(Major::Bytes, n, _) => front(n, rest),
-        Head::Sized(Major::Text, n, _) => front(n, rest),
+        Head::Sized(Major::Bytes, _, n) => front(n, rest),
+        Head::Sized(Major::Text, _, n) => front(n, rest),
         _ => None,
     }
 }

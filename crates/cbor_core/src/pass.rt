@@ -49,7 +49,7 @@ fn pass_inside(
     ensures exact { is_some alloc ≡ false → IfErr result (λ e. (pass_in (is_some alloc) total levels (pass_at (is_some alloc) total levels) place head rest.now) ≡ Err e) }
 {
     match head {
-        Head::Sized(major, n, _) => pass_counted(alloc, total, levels, place, major, n, rest),
+        Head::Sized(major, _, n) => pass_counted(alloc, total, levels, place, major, n, rest),
         Head::Open(major) => pass_to_break(alloc, total, levels, place, major, rest),
         Head::Simple(_) => Ok(rest),
         Head::Float => Err(CborFault::Float(place)),

@@ -93,7 +93,7 @@ fn read_content(
     ensures { Gives (λ x. (x.0, x.1.now)) result (item_in strict total (item_at strict total levels) place head rest.now) }
 {
     match head {
-        Head::Sized(major, n, shortest) => {
+        Head::Sized(major, shortest, n) => {
             read_sized(
                 alloc, strict, total, levels, place, major, n, shortest, rest,
             )
@@ -210,11 +210,11 @@ pub(crate) fn refuse_buried(place: usize, head: Head, rest: &[u8]) -> CborFault
     ensures exact { buried_in place head rest.now ≡ Err result }
 {
     match head {
-        Head::Sized(Major::Bytes, n, _) => match read_bytes(place, n, rest) {
+        Head::Sized(Major::Bytes, _, n) => match read_bytes(place, n, rest) {
             Ok(_) => CborFault::TooDeep(place),
             Err(fault) => fault,
         },
-        Head::Sized(Major::Text, n, _) => match read_text(place, n, rest) {
+        Head::Sized(Major::Text, _, n) => match read_text(place, n, rest) {
             Ok(_) => CborFault::TooDeep(place),
             Err(fault) => fault,
         },

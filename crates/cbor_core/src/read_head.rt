@@ -38,22 +38,22 @@ fn read_argument(
     ensures exact { IfErr result (λ e. (argument_at place major size low rest.now) ≡ Err e) }
 {
     match size {
-        Size::Inside => Ok((Head::Sized(major, low as u64, true), rest)),
+        Size::Inside => Ok((Head::Sized(major, true, low as u64), rest)),
         Size::One => {
             let (n, after) = read_u8(place, rest)?;
-            Ok((Head::Sized(major, n as u64, n >= 24), after))
+            Ok((Head::Sized(major, n >= 24, n as u64), after))
         }
         Size::Two => {
             let (n, after) = read_u16(place, rest)?;
-            Ok((Head::Sized(major, n as u64, n >= 1 << 8), after))
+            Ok((Head::Sized(major, n >= 1 << 8, n as u64), after))
         }
         Size::Four => {
             let (n, after) = read_u32(place, rest)?;
-            Ok((Head::Sized(major, n as u64, n >= 1 << 16), after))
+            Ok((Head::Sized(major, n >= 1 << 16, n as u64), after))
         }
         Size::Eight => {
             let (n, after) = read_u64(place, rest)?;
-            Ok((Head::Sized(major, n, n >= 1 << 32), after))
+            Ok((Head::Sized(major, n >= 1 << 32, n), after))
         }
         Size::Reserved => Ok((Head::Reserved, rest)),
         Size::Indefinite => Ok((Head::Open(major), rest)),

@@ -67,8 +67,8 @@ pub(crate) fn read_byte_chunk(
     ensures exact { IfErr result (λ e. (chunk_in place major.Bytes head rest.now) ≡ Err e) }
 {
     match head {
-        Head::Sized(Major::Bytes, n, _) => read_bytes(place, n, rest),
-        Head::Sized(Major::Text, n, _) => Err(refuse_foreign(place, n, rest)),
+        Head::Sized(Major::Bytes, _, n) => read_bytes(place, n, rest),
+        Head::Sized(Major::Text, _, n) => Err(refuse_foreign(place, n, rest)),
         _ => Err(CborFault::Malformed(place)),
     }
 }
@@ -82,8 +82,8 @@ pub(crate) fn read_text_chunk(
     ensures exact { IfErr result (λ e. (chunk_in place major.Text head rest.now) ≡ Err e) }
 {
     match head {
-        Head::Sized(Major::Text, n, _) => read_text(place, n, rest),
-        Head::Sized(Major::Bytes, n, _) => Err(refuse_foreign(place, n, rest)),
+        Head::Sized(Major::Text, _, n) => read_text(place, n, rest),
+        Head::Sized(Major::Bytes, _, n) => Err(refuse_foreign(place, n, rest)),
         _ => Err(CborFault::Malformed(place)),
     }
 }
