@@ -91,7 +91,7 @@ set_any p keys = inserted_any p [] keys
 pub admitted_by_set : (strict : Bool) (place : ℕ) (keys : List (List ℕ)) (k : List ℕ) → admitted strict place (key_set keys) k ≡ admitted strict place keys k
 admitted_by_set strict place keys k = rw (set_any (λ q. is_eq (slice_cmp nat_cmp k q)) keys, set_any (λ q. is_lt (slice_cmp nat_cmp k q)) keys) refl
 
-set_push : (set keys : List (List ℕ)) (k : List ℕ) → fold (insert_key (slice_cmp nat_cmp)) set (keys ++ k ∷ []) ≡ insert_key (slice_cmp nat_cmp) (fold (insert_key (slice_cmp nat_cmp)) set keys) k
+pub set_push : (set keys : List (List ℕ)) (k : List ℕ) → fold (insert_key (slice_cmp nat_cmp)) set (keys ++ k ∷ []) ≡ insert_key (slice_cmp nat_cmp) (fold (insert_key (slice_cmp nat_cmp)) set keys) k
 set_push set [] k = refl
 set_push set (q ∷ qs) k = set_push (insert_key (slice_cmp nat_cmp) set q) qs k
 

@@ -2,7 +2,7 @@ ghost use Rattle.std.specs.Prelude.{ℕ, ◌≤◌, take, IfOk, ◌≡◌, [], l
 ghost use Rattle.cbor_core.specs.declared.head.Major.TheVariants as major;
 ghost use Rattle.cbor_core.specs.Reading.{Gives, Fails, content_at, row_at, open_at, item_step, pair_step, key_spellings, admitted, demanded, sized_in, open_in, item_in, buried_sized, buried_open, buried_in, item_at, first_item};
 ghost use Rattle.cbor_core.specs.declared.item.Item.{Item};
-ghost use Rattle.cbor_core.specs.Keys.{key_set};
+ghost use Rattle.cbor_core.specs.Keys.{Keeps};
 ghost use Rattle.cbor_core.specs.Deterministic.{det};
 ghost use Rattle.cbor_core.specs.Norm.{norm, IsFit};
 ghost use Rattle.cbor_core.specs.Spelling.{Spells};
@@ -11,14 +11,12 @@ use crate::blob::Blob;
 use crate::fault::CborFault;
 use crate::head::{Head, Major};
 use crate::item::{Item, Items, Pairs};
-use crate::keys::admit;
+use crate::keys::{Keys, as_received};
 use crate::read_head::read_head;
 use crate::strings::{is_break, read_byte_chunks, read_bytes, read_text, read_text_chunks};
 use crate::text::Text;
-use crate::write::write_det;
 use sqlite_items::Boxed;
 use std::alloc::Global;
-use std::collections::BTreeSet;
 
 /// The item at the front of the bytes, and how many bytes it takes. Bytes may follow. The first fault in reading
 /// order is answered, and never `NotDeterministic`.
@@ -309,7 +307,7 @@ fn read_pairs(
     ensures { Gives (λ x. (x.0, x.1.now)) result (row_at (pair_step strict total (item_at strict total levels)) n [] bytes.now) }
 {
     let mut pairs = Pairs::new(alloc);
-    let mut keys = BTreeSet::new(alloc);
+    let mut keys = Keys::new(alloc);
     let mut rest = bytes;
     for _turn in 0..n {
         match next_pair(alloc, strict, total, levels, &mut pairs, &mut keys, rest) {
@@ -332,7 +330,7 @@ fn read_open_pairs(
     ensures { Gives (λ x. (x.0, x.1.now)) result (open_at (pair_step strict total (item_at strict total levels)) total (length bytes.now) [] bytes.now) }
 {
     let mut pairs = Pairs::new(alloc);
-    let mut keys = BTreeSet::new(alloc);
+    let mut keys = Keys::new(alloc);
     let mut rest = bytes;
     for _turn in 0..bytes.len() {
         if is_break(rest) {
@@ -389,25 +387,26 @@ fn read_one_pair(
     }
 }
 
-/// Reads a key and its value and puts them behind those read before, whose keys' spellings are `keys`.
+/// Reads a key and its value and puts them behind those read before, of whose keys `keys` is kept.
 #[cycle(reading)]
-#[tactic(auto, using(crate::proofs::KeySets::admitted_by_set), unfolding(crate::specs::Reading::pair_step))]
+#[tactic(auto, unfolding(crate::specs::Reading::pair_step))]
 fn next_pair<'a>(
     alloc: Global,
     strict: bool,
     total: usize,
     levels: u8,
     pairs: &mut Pairs,
-    keys: &mut BTreeSet<Blob>,
+    keys: &mut Keys<'a>,
     bytes: &'a [u8],
 ) -> Result<&'a [u8], CborFault>
-    requires { keys.old.keys ≡ key_set (key_spellings pairs.old) }
+    requires { Keeps keys.old (key_spellings pairs.old) }
     ensures gives { Gives (λ rest. (pairs.new, rest.now)) result (pair_step strict total (item_at strict total levels) pairs.old bytes.now) }
-    ensures keys { OnOk result (keys.new.keys ≡ key_set (key_spellings pairs.new)) }
+    ensures keys { OnOk result (Keeps keys.new (key_spellings pairs.new)) }
 {
     let place = total.saturating_sub(bytes.len());
     let (key, rest) = read_item(alloc, strict, total, levels, bytes)?;
-    admit(strict, place, keys, write_det(alloc, &key)?)?;
+    let received = as_received(place, bytes, rest);
+    keys.admit(alloc, strict, place, pairs.as_slice(), &key, received)?;
     let (value, after) = read_item(alloc, strict, total, levels, rest)?;
     pairs.push((key, value))?;
     Ok(after)
