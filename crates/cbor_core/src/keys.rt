@@ -97,7 +97,7 @@ impl<'a> Keys<'a> {
     }
 }
 
-fn is_below(a: &[u8], b: &[u8]) -> bool
+pub(crate) fn is_below(a: &[u8], b: &[u8]) -> bool
     ensures { result ≡ is_lt (slice_cmp nat_cmp a.now b.now) }
 {
     match a.cmp(&b) {
