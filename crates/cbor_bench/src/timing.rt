@@ -62,11 +62,11 @@ fn open(alloc: Global, body: &[u8], walks: bool) -> usize {
 
 /// How many bytes the parts show that nothing stands in.
 fn walk(cursor: &Cursor, levels: u8) -> usize {
+    if let Some(content) = cursor.content() {
+        return content.len();
+    }
     let Some(first) = cursor.inside() else {
-        return match cursor.content() {
-            Some(content) => content.len(),
-            None => cursor.raw().len(),
-        };
+        return cursor.raw().len();
     };
     if levels == 0 {
         return 0;

@@ -143,10 +143,16 @@ impl<'a> Cursor<'a> {
     pub fn after(&self) -> Option<Cursor<'a>>
         ensures { (input : List ℕ) (x : Item) (text : List ℕ) (later : List Item) → Stands self.now input x text later → Next input (self.now.at + length text) later result }
     {
-        let end = self.end();
         match self.left {
-            Left::Counted(left) => counted(self.moved(end), left, self.levels, end),
-            Left::ToBreak => to_break(self.moved(end), self.levels, end),
+            Left::Counted(0) => None,
+            Left::Counted(left) => {
+                let end = self.end();
+                counted(self.moved(end), left, self.levels, end)
+            }
+            Left::ToBreak => {
+                let end = self.end();
+                to_break(self.moved(end), self.levels, end)
+            }
         }
     }
 
