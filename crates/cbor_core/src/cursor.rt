@@ -176,6 +176,7 @@ impl<'a> Cursor<'a> {
     }
 
     /// The place of bytes that stand in the input behind the head.
+    #[inline(always)]
     fn moved(&self, rest: &[u8]) -> usize
         ensures { result ≡ min (self.now.at + (length self.now.tail.now - length rest.now)) usize.MAX }
     {
@@ -202,6 +203,7 @@ pub enum Entry {
     ToBreak,
 }
 
+#[inline(always)]
 fn find_entry(head: Head) -> Entry
     ensures { result ≡ entry_of head }
 {
@@ -216,6 +218,7 @@ fn find_entry(head: Head) -> Entry
 }
 
 /// The first of `n` items.
+#[inline(always)]
 fn counted<'a>(at: usize, n: u64, levels: u8, tail: &'a [u8]) -> Option<Cursor<'a>>
     ensures none { n ≡ 0 → IsNone result }
     ensures some { 0 < n → IsSomeAnd result (λ c. (c.tail.now ≡ tail.now) × (c.at ≡ at) × (c.levels ≡ levels) × (c.left ≡ Left.Counted (n - 1))) }
@@ -232,6 +235,7 @@ fn counted<'a>(at: usize, n: u64, levels: u8, tail: &'a [u8]) -> Option<Cursor<'
 }
 
 /// The first item before a break.
+#[inline(always)]
 fn to_break<'a>(at: usize, levels: u8, tail: &'a [u8]) -> Option<Cursor<'a>>
     ensures none { breaks tail.now ≡ true → IsNone result }
     ensures some { breaks tail.now ≡ false → IsSomeAnd result (λ c. (c.tail.now ≡ tail.now) × (c.at ≡ at) × (c.levels ≡ levels) × (c.left ≡ Left.ToBreak)) }
@@ -248,6 +252,7 @@ fn to_break<'a>(at: usize, levels: u8, tail: &'a [u8]) -> Option<Cursor<'a>>
     }
 }
 
+#[inline(always)]
 fn find_code(head: Head) -> u8
     ensures { result ≡ head_major head }
 {
@@ -258,6 +263,7 @@ fn find_code(head: Head) -> u8
     }
 }
 
+#[inline(always)]
 fn code_of(major: Major) -> u8
     ensures { result ≡ code major }
 {
@@ -272,6 +278,7 @@ fn code_of(major: Major) -> u8
     }
 }
 
+#[inline(always)]
 fn find_number(head: Head) -> Option<u64>
     ensures { result ≡ head_number head }
 {
@@ -284,6 +291,7 @@ fn find_number(head: Head) -> Option<u64>
     }
 }
 
+#[inline(always)]
 pub(crate) fn find_content(head: Head, rest: &[u8]) -> Option<&[u8]>
     ensures { option_copied result ≡ content_in head rest.now }
 {
@@ -294,6 +302,7 @@ pub(crate) fn find_content(head: Head, rest: &[u8]) -> Option<&[u8]>
     }
 }
 
+#[inline(always)]
 fn front(n: u64, rest: &[u8]) -> Option<&[u8]>
     ensures { option_copied result ≡ (if nat_lt (length rest.now) n then None else Some (take n rest.now)) }
 {

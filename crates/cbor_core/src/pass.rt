@@ -318,6 +318,7 @@ pub(crate) fn pass_two(
     pass_item(alloc, total, levels, value)
 }
 
+#[inline(always)]
 fn pass_bytes(alloc: Option<Global>, place: usize, n: u64, rest: &[u8]) -> Result<&[u8], CborFault>
     ensures gives { Gives (λ rest. (tt, rest.now)) result (pass_content (is_some alloc) place major.Bytes n rest.now) }
     ensures exact { IfErr result (λ e. (pass_content (is_some alloc) place major.Bytes n rest.now) ≡ Err e) }
@@ -344,6 +345,7 @@ fn pass_text(alloc: Option<Global>, place: usize, n: u64, rest: &[u8]) -> Result
     }
 }
 
+#[inline(always)]
 fn pass_some(place: usize, n: u64, rest: &[u8]) -> Result<&[u8], CborFault>
     ensures gives { Gives (λ rest. (tt, rest.now)) result (pass_content false place major.Bytes n rest.now) }
     ensures exact { IfErr result (λ e. (pass_content false place major.Bytes n rest.now) ≡ Err e) }

@@ -192,6 +192,7 @@ fn read_open(
     }
 }
 
+#[inline(always)]
 fn demand(strict: bool, deterministic: bool, place: usize) -> Result<(), CborFault>
     ensures { Gives (λ x. x) result (demanded strict deterministic place) }
 {
