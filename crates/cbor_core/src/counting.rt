@@ -8,7 +8,7 @@ use crate::pass::{pass_item, pass_two};
 use crate::strings::is_break;
 
 /// How many elements or pairs an array or a map has, by its head and what is behind it.
-pub(crate) fn find_count(total: usize, levels: u8, head: Head, rest: &[u8]) -> Option<u64>
+pub(crate) fn find_count(total: usize, levels: usize, head: Head, rest: &[u8]) -> Option<u64>
     ensures { CountBehind total levels head rest.now result }
 {
     match head {
@@ -21,7 +21,7 @@ pub(crate) fn find_count(total: usize, levels: u8, head: Head, rest: &[u8]) -> O
 }
 
 /// How many items stand before the break.
-pub(crate) fn count_items(total: usize, levels: u8, bytes: &[u8]) -> Option<u64>
+pub(crate) fn count_items(total: usize, levels: usize, bytes: &[u8]) -> Option<u64>
     ensures { (n : ℕ) (after : List ℕ) → open_at (count_step (pass_at false total levels)) total (length bytes.now) 0 bytes.now ≡ Ok (n, after) → result ≡ Some n }
 {
     let mut rest = bytes;
@@ -38,7 +38,7 @@ pub(crate) fn count_items(total: usize, levels: u8, bytes: &[u8]) -> Option<u64>
 }
 
 /// How many pairs stand before the break.
-pub(crate) fn count_pairs(total: usize, levels: u8, bytes: &[u8]) -> Option<u64>
+pub(crate) fn count_pairs(total: usize, levels: usize, bytes: &[u8]) -> Option<u64>
     ensures { (n : ℕ) (after : List ℕ) → open_at (count_step (pass_pair (pass_at false total levels) tt)) total (length bytes.now) 0 bytes.now ≡ Ok (n, after) → result ≡ Some n }
 {
     let mut rest = bytes;

@@ -32,7 +32,7 @@ pub enum Left {
 pub struct Cursor<'a> {
     tail: &'a [u8],
     at: usize,
-    levels: u8,
+    levels: usize,
     left: Left,
 }
 
@@ -219,7 +219,7 @@ fn find_entry(head: Head) -> Entry
 
 /// The first of `n` items.
 #[inline(always)]
-fn counted<'a>(at: usize, n: u64, levels: u8, tail: &'a [u8]) -> Option<Cursor<'a>>
+fn counted<'a>(at: usize, n: u64, levels: usize, tail: &'a [u8]) -> Option<Cursor<'a>>
     ensures none { n ≡ 0 → IsNone result }
     ensures some { 0 < n → IsSomeAnd result (λ c. (c.tail.now ≡ tail.now) × (c.at ≡ at) × (c.levels ≡ levels) × (c.left ≡ Left.Counted (n - 1))) }
 {
@@ -236,7 +236,7 @@ fn counted<'a>(at: usize, n: u64, levels: u8, tail: &'a [u8]) -> Option<Cursor<'
 
 /// The first item before a break.
 #[inline(always)]
-fn to_break<'a>(at: usize, levels: u8, tail: &'a [u8]) -> Option<Cursor<'a>>
+fn to_break<'a>(at: usize, levels: usize, tail: &'a [u8]) -> Option<Cursor<'a>>
     ensures none { breaks tail.now ≡ true → IsNone result }
     ensures some { breaks tail.now ≡ false → IsSomeAnd result (λ c. (c.tail.now ≡ tail.now) × (c.at ≡ at) × (c.levels ≡ levels) × (c.left ≡ Left.ToBreak)) }
 {

@@ -21,7 +21,7 @@ use std::collections::BTreeSet;
 pub(crate) fn pass_item(
     alloc: Option<Global>,
     total: usize,
-    levels: u8,
+    levels: usize,
     bytes: &[u8],
 ) -> Result<&[u8], CborFault>
     ensures gives { Gives (λ rest. (tt, rest.now)) result (pass_at (is_some alloc) total levels bytes.now) }
@@ -40,7 +40,7 @@ pub(crate) fn pass_item(
 fn pass_inside(
     alloc: Option<Global>,
     total: usize,
-    levels: u8,
+    levels: usize,
     place: usize,
     head: Head,
     rest: &[u8],
@@ -62,7 +62,7 @@ fn pass_inside(
 fn pass_counted(
     alloc: Option<Global>,
     total: usize,
-    levels: u8,
+    levels: usize,
     place: usize,
     major: Major,
     n: u64,
@@ -86,7 +86,7 @@ fn pass_counted(
 fn pass_to_break(
     alloc: Option<Global>,
     total: usize,
-    levels: u8,
+    levels: usize,
     place: usize,
     major: Major,
     rest: &[u8],
@@ -108,7 +108,7 @@ fn pass_to_break(
 fn pass_items(
     alloc: Option<Global>,
     total: usize,
-    levels: u8,
+    levels: usize,
     n: u64,
     bytes: &[u8],
 ) -> Result<&[u8], CborFault>
@@ -130,7 +130,7 @@ fn pass_items(
 fn pass_open_items(
     alloc: Option<Global>,
     total: usize,
-    levels: u8,
+    levels: usize,
     bytes: &[u8],
 ) -> Result<&[u8], CborFault>
     ensures gives { Gives (λ rest. (tt, rest.now)) result (open_at (pass_step (pass_at (is_some alloc) total levels)) total (length bytes.now) tt bytes.now) }
@@ -154,7 +154,7 @@ fn pass_open_items(
 fn pass_map(
     alloc: Option<Global>,
     total: usize,
-    levels: u8,
+    levels: usize,
     n: u64,
     bytes: &[u8],
 ) -> Result<&[u8], CborFault>
@@ -177,7 +177,7 @@ fn pass_map(
 fn pass_open_map(
     alloc: Option<Global>,
     total: usize,
-    levels: u8,
+    levels: usize,
     bytes: &[u8],
 ) -> Result<&[u8], CborFault>
     ensures gives { Gives (λ rest. (tt, rest.now)) result (pass_open_pairs (is_some alloc) total levels (pass_at (is_some alloc) total levels) bytes.now) }
@@ -195,7 +195,7 @@ fn pass_open_map(
 fn pass_fresh_pairs(
     alloc: Global,
     total: usize,
-    levels: u8,
+    levels: usize,
     n: u64,
     bytes: &[u8],
 ) -> Result<&[u8], CborFault>
@@ -218,7 +218,7 @@ fn pass_fresh_pairs(
 fn pass_fresh_to_break(
     alloc: Global,
     total: usize,
-    levels: u8,
+    levels: usize,
     bytes: &[u8],
 ) -> Result<&[u8], CborFault>
     ensures { Gives (λ rest. (tt, rest.now)) result (forgotten (open_at (fresh_step total (item_at false total levels) (pass_at true total levels)) total (length bytes.now) [] bytes.now)) }
@@ -243,7 +243,7 @@ fn pass_fresh_to_break(
 fn pass_fresh<'a>(
     alloc: Global,
     total: usize,
-    levels: u8,
+    levels: usize,
     keys: &mut BTreeSet<Blob>,
     bytes: &'a [u8],
 ) -> Result<&'a [u8], CborFault>
@@ -259,7 +259,7 @@ fn pass_fresh<'a>(
 fn read_spelling(
     alloc: Global,
     total: usize,
-    levels: u8,
+    levels: usize,
     bytes: &[u8],
 ) -> Result<(Blob, &[u8]), CborFault>
     ensures { Gives (λ x. (x.0, x.1.now)) result (spelled_at (item_at false total levels) bytes.now) }
@@ -270,7 +270,7 @@ fn read_spelling(
 
 #[cycle(passing)]
 #[tactic(auto, using(crate::proofs::Loops::row_more, crate::proofs::Loops::row_fails, crate::proofs::Loops::row_ends, crate::proofs::Loops::row_refuses))]
-fn pass_keyed(total: usize, levels: u8, n: u64, bytes: &[u8]) -> Result<&[u8], CborFault>
+fn pass_keyed(total: usize, levels: usize, n: u64, bytes: &[u8]) -> Result<&[u8], CborFault>
     ensures gives { Gives (λ rest. (tt, rest.now)) result (row_at (pass_pair (pass_at false total levels)) n tt bytes.now) }
     ensures exact { IfErr result (λ e. (row_at (pass_pair (pass_at false total levels)) n tt bytes.now) ≡ Err e) }
 {
@@ -286,7 +286,7 @@ fn pass_keyed(total: usize, levels: u8, n: u64, bytes: &[u8]) -> Result<&[u8], C
 
 #[cycle(passing)]
 #[tactic(auto, using(crate::proofs::Loops::open_more, crate::proofs::Loops::open_fails, crate::proofs::Loops::open_ends, crate::proofs::Loops::open_over, crate::proofs::Loops::open_refuses))]
-fn pass_open_keyed(total: usize, levels: u8, bytes: &[u8]) -> Result<&[u8], CborFault>
+fn pass_open_keyed(total: usize, levels: usize, bytes: &[u8]) -> Result<&[u8], CborFault>
     ensures gives { Gives (λ rest. (tt, rest.now)) result (open_at (pass_pair (pass_at false total levels)) total (length bytes.now) tt bytes.now) }
     ensures exact { IfErr result (λ e. (open_at (pass_pair (pass_at false total levels)) total (length bytes.now) tt bytes.now) ≡ Err e) }
 {
@@ -308,7 +308,7 @@ fn pass_open_keyed(total: usize, levels: u8, bytes: &[u8]) -> Result<&[u8], Cbor
 pub(crate) fn pass_two(
     alloc: Option<Global>,
     total: usize,
-    levels: u8,
+    levels: usize,
     bytes: &[u8],
 ) -> Result<&[u8], CborFault>
     ensures gives { Gives (λ rest. (tt, rest.now)) result (pass_pair (pass_at (is_some alloc) total levels) tt bytes.now) }

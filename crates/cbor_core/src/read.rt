@@ -64,7 +64,7 @@ pub(crate) fn read_item(
     alloc: Global,
     strict: bool,
     total: usize,
-    levels: u8,
+    levels: usize,
     bytes: &[u8],
 ) -> Result<(Item, &[u8]), CborFault>
     ensures { Gives (λ x. (x.0, x.1.now)) result (item_at strict total levels bytes.now) }
@@ -83,7 +83,7 @@ fn read_content(
     alloc: Global,
     strict: bool,
     total: usize,
-    levels: u8,
+    levels: usize,
     place: usize,
     head: Head,
     rest: &[u8],
@@ -109,7 +109,7 @@ fn read_sized(
     alloc: Global,
     strict: bool,
     total: usize,
-    levels: u8,
+    levels: usize,
     place: usize,
     major: Major,
     n: u64,
@@ -160,7 +160,7 @@ fn read_open(
     alloc: Global,
     strict: bool,
     total: usize,
-    levels: u8,
+    levels: usize,
     place: usize,
     major: Major,
     rest: &[u8],
@@ -236,7 +236,7 @@ fn read_items(
     alloc: Global,
     strict: bool,
     total: usize,
-    levels: u8,
+    levels: usize,
     n: u64,
     bytes: &[u8],
 ) -> Result<(Items, &[u8]), CborFault>
@@ -259,7 +259,7 @@ fn read_open_items(
     alloc: Global,
     strict: bool,
     total: usize,
-    levels: u8,
+    levels: usize,
     bytes: &[u8],
 ) -> Result<(Items, &[u8]), CborFault>
     ensures { Gives (λ x. (x.0, x.1.now)) result (open_at (item_step (item_at strict total levels)) total (length bytes.now) [] bytes.now) }
@@ -284,7 +284,7 @@ fn next_item<'a>(
     alloc: Global,
     strict: bool,
     total: usize,
-    levels: u8,
+    levels: usize,
     items: &mut Items,
     bytes: &'a [u8],
 ) -> Result<&'a [u8], CborFault>
@@ -301,7 +301,7 @@ fn read_pairs(
     alloc: Global,
     strict: bool,
     total: usize,
-    levels: u8,
+    levels: usize,
     n: u64,
     bytes: &[u8],
 ) -> Result<(Pairs, &[u8]), CborFault>
@@ -325,7 +325,7 @@ fn read_open_pairs(
     alloc: Global,
     strict: bool,
     total: usize,
-    levels: u8,
+    levels: usize,
     bytes: &[u8],
 ) -> Result<(Pairs, &[u8]), CborFault>
     ensures { Gives (λ x. (x.0, x.1.now)) result (open_at (pair_step strict total (item_at strict total levels)) total (length bytes.now) [] bytes.now) }
@@ -350,7 +350,7 @@ fn read_map(
     alloc: Global,
     strict: bool,
     total: usize,
-    levels: u8,
+    levels: usize,
     n: u64,
     bytes: &[u8],
 ) -> Result<(Pairs, &[u8]), CborFault>
@@ -370,7 +370,7 @@ fn read_one_pair(
     alloc: Global,
     strict: bool,
     total: usize,
-    levels: u8,
+    levels: usize,
     bytes: &[u8],
 ) -> Result<(Pairs, &[u8]), CborFault>
     ensures { Gives (λ x. (x.0, x.1.now)) result (row_at (pair_step strict total (item_at strict total levels)) 1 [] bytes.now) }
@@ -395,7 +395,7 @@ fn next_pair<'a>(
     alloc: Global,
     strict: bool,
     total: usize,
-    levels: u8,
+    levels: usize,
     pairs: &mut Pairs,
     keys: &mut Keys<'a>,
     bytes: &'a [u8],
