@@ -243,7 +243,12 @@ item_passes c total (suc levels) bytes = both c (head_at (total - length bytes) 
     (λ h. pass_in c total levels (pass_at c total levels) (total - length bytes) h.0 h.1) (λ h. item_in false total (item_at false total levels) (total - length bytes) h.0 h.1)
     (λ h. inside_passes c total levels (item_passes c total levels) (total - length bytes) h.0 h.1)
 
--- what a map of one pair owes
+-- an empty map, and a map of one pair
+pub none_passes : (checked : Bool) (total levels : ℕ) (bytes : List ℕ) → pass_pairs checked total levels (pass_at checked total levels) 0 bytes ≡ Ok (tt, bytes)
+unfolding row_at
+none_passes true total levels bytes = refl
+none_passes false total levels bytes = refl
+
 pub one_passes : (total levels : ℕ) (bytes : List ℕ) → pass_pairs true total levels (pass_at true total levels) 1 bytes ≡ pass_pair (pass_at true total levels) tt bytes
 one_passes total levels bytes = one_row total (item_at false total levels) (pass_at true total levels)
     (λ rest. same_passing (pass_at true total levels rest) (item_at false total levels rest) (item_passes true total levels rest)) bytes

@@ -150,7 +150,7 @@ fn pass_open_items(
 }
 
 #[cycle(passing)]
-#[tactic(auto, using(crate::proofs::Passes::one_passes))]
+#[tactic(auto, using(crate::proofs::Passes::none_passes, crate::proofs::Passes::one_passes))]
 fn pass_map(
     alloc: Option<Global>,
     total: usize,
@@ -161,6 +161,9 @@ fn pass_map(
     ensures gives { Gives (λ rest. (tt, rest.now)) result (pass_pairs (is_some alloc) total levels (pass_at (is_some alloc) total levels) n bytes.now) }
     ensures exact { is_some alloc ≡ false → IfErr result (λ e. (pass_pairs (is_some alloc) total levels (pass_at (is_some alloc) total levels) n bytes.now) ≡ Err e) }
 {
+    if n == 0 {
+        return Ok(bytes);
+    }
     match alloc {
         Some(memory) => {
             if n == 1 {

@@ -346,6 +346,7 @@ fn read_open_pairs(
 }
 
 #[cycle(reading)]
+#[tactic(auto, unfolding(crate::specs::Reading::row_at))]
 fn read_map(
     alloc: Global,
     strict: bool,
@@ -356,10 +357,10 @@ fn read_map(
 ) -> Result<(Pairs, &[u8]), CborFault>
     ensures { Gives (λ x. (x.0, x.1.now)) result (row_at (pair_step strict total (item_at strict total levels)) n [] bytes.now) }
 {
-    if n == 1 {
-        read_one_pair(alloc, strict, total, levels, bytes)
-    } else {
-        read_pairs(alloc, strict, total, levels, n, bytes)
+    match n {
+        0 => Ok((Pairs::new(alloc), bytes)),
+        1 => read_one_pair(alloc, strict, total, levels, bytes),
+        _ => read_pairs(alloc, strict, total, levels, n, bytes),
     }
 }
 
