@@ -6,7 +6,7 @@ ghost use Rattle.cbor_core.specs.Passing.{pass_content, pass_chunk, pass_step, p
 use crate::blob::Blob;
 use crate::fault::CborFault;
 use crate::head::{Head, Major};
-use crate::keys::admit;
+use crate::keys::{admit, as_received};
 use crate::read::{read_item, refuse_buried};
 use crate::read_head::read_head;
 use crate::strings::{is_break, read_byte_chunk, read_bytes, read_text, read_text_chunk};
@@ -267,8 +267,12 @@ fn read_spelling(
 ) -> Result<(Blob, &[u8]), CborFault>
     ensures { Gives (λ x. (x.0, x.1.now)) result (spelled_at (item_at false total levels) bytes.now) }
 {
+    let place = total.saturating_sub(bytes.len());
     let (item, rest) = read_item(alloc, false, total, levels, bytes)?;
-    Ok((write_det(alloc, &item)?, rest))
+    match as_received(place, bytes, rest) {
+        Some(text) => Ok((Blob::from_slice(alloc, text)?, rest)),
+        None => Ok((write_det(alloc, &item)?, rest)),
+    }
 }
 
 #[cycle(passing)]
