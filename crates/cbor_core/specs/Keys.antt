@@ -19,10 +19,12 @@ IsTop last keys = AllByRecursion (λ k. is_lt (slice_cmp nat_cmp last k) ≡ fal
 
 -- the last key's spelling while the keys rise, and else the spellings of all
 abbrev pub Keeps : Keys → List (List ℕ) → Type 0
-Keeps k keys = (k.rising ≡ true → IsTop k.last.now keys) × (k.rising ≡ false → k.all.keys ≡ key_set keys)
+Keeps k keys =
+    (k.rising ≡ true → IsTop k.last.now keys)
+    × (k.rising ≡ false → k.all.keys ≡ key_set keys)
 
--- whether a head says that its item is in its deterministic spelling: that of a number, or of a string of definite
--- length, with the shortest argument
+-- whether a head says that its item is in its deterministic spelling: that of a number, or of a
+-- string of definite length, with the shortest argument
 abbrev pub is_settled : Head → Bool
 is_settled (heads.Sized major.Unsigned s n) = s
 is_settled (heads.Sized major.Negative s n) = s

@@ -33,10 +33,10 @@ pass_pair pass u bytes = pass bytes >>= λ key. pass key.1
 abbrev pub spelled_at : (List ℕ → Read Item) → List ℕ → Read (List ℕ)
 spelled_at read bytes = read bytes >>= λ x. Ok (det x.0, x.1)
 
--- a pair where keys are compared: of the key its spelling is kept, among those of the keys before it, and of the
--- value nothing
-unfoldable pub fresh_step : ℕ → (List ℕ → Read Item) → (List ℕ → Read (Unit {0})) → List (List ℕ) → List ℕ
-    → Read (List (List ℕ))
+-- a pair where keys are compared: of the key its spelling is kept, among those of the keys before
+-- it, and of the value nothing
+unfoldable pub fresh_step : ℕ → (List ℕ → Read Item) → (List ℕ → Read (Unit {0}))
+    → List (List ℕ) → List ℕ → Read (List (List ℕ))
 fresh_step total read pass keys bytes = do
   key ← spelled_at read bytes
   fresh ← admitted false (total - length bytes) keys key.0
@@ -54,7 +54,8 @@ pass_pairs false total levels pass n rest = row_at (pass_pair pass) n tt rest
 
 abbrev pub pass_open_pairs : Bool → ℕ → ℕ → (List ℕ → Read (Unit {0})) → List ℕ → Read (Unit {0})
 pass_open_pairs true total levels pass rest =
-    forgotten (open_at (fresh_step total (item_at false total levels) pass) total (length rest) [] rest)
+    forgotten
+    (open_at (fresh_step total (item_at false total levels) pass) total (length rest) [] rest)
 pass_open_pairs false total levels pass rest = open_at (pass_pair pass) total (length rest) tt rest
 
 abbrev pub pass_sized : Bool → ℕ → ℕ → (List ℕ → Read (Unit {0})) → ℕ → Major → ℕ → List ℕ → Read (Unit {0})

@@ -389,7 +389,7 @@ fn read_one_pair(
     }
 }
 
-/// Reads a key and its value and puts them behind those read before, of whose keys `keys` is kept.
+/// Reads a key and its value and puts them behind those read before. `keys` is what is kept of the keys before.
 #[cycle(reading)]
 #[tactic(auto, unfolding(crate::specs::Reading::pair_step))]
 fn next_pair<'a>(
