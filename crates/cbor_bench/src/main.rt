@@ -17,7 +17,12 @@ fn main(rt: HostRuntime) -> io::Result<()> {
         let file = fs::read(&rt, path.as_str())?;
         let bodies = frames::split(rt.alloc(), file.as_slice())?;
         let bytes = frames::total(&bodies);
-        for mode in [timing::Mode::Decode, timing::Mode::Both] {
+        for mode in [
+            timing::Mode::Decode,
+            timing::Mode::Both,
+            timing::Mode::Open,
+            timing::Mode::Walk,
+        ] {
             let time = timing::least(&rt, &bodies, mode)?;
             let name = mode.name();
             let each = time / (bodies.len() as u64).max(1);

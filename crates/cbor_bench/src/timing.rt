@@ -1,4 +1,4 @@
-use cbor_core::{read_wire, write_det};
+use cbor_core::{Cursor, read_wire, write_det};
 use std::alloc::Global;
 use std::io;
 use std::time::Instant;
@@ -8,6 +8,10 @@ use std::time::Instant;
 pub enum Mode {
     Decode,
     Both,
+    /// Opening a cursor.
+    Open,
+    /// Opening a cursor, and going with it to each part.
+    Walk,
 }
 
 impl Mode {
@@ -15,21 +19,65 @@ impl Mode {
         match self {
             Mode::Decode => "decode",
             Mode::Both => "decode+encode",
+            Mode::Open => "open",
+            Mode::Walk => "open+walk",
         }
     }
 }
 
-/// One turn over all bodies: how many bytes were read and written.
+/// One turn over all bodies: how many bytes were read, written or shown.
 fn turn(alloc: Global, bodies: &[Vec<u8>], mode: Mode) -> usize {
     let mut sum = 0usize;
     for body in bodies {
-        if let Ok((item, taken)) = read_wire(alloc, body.as_slice()) {
-            sum = sum.saturating_add(taken);
-            if mode == Mode::Both {
-                if let Ok(blob) = write_det(alloc, &item) {
-                    sum = sum.saturating_add(blob.as_list().len());
-                }
-            }
+        let count = match mode {
+            Mode::Decode => read(alloc, body.as_slice(), false),
+            Mode::Both => read(alloc, body.as_slice(), true),
+            Mode::Open => open(alloc, body.as_slice(), false),
+            Mode::Walk => open(alloc, body.as_slice(), true),
+        };
+        sum = sum.saturating_add(count);
+    }
+    sum
+}
+
+fn read(alloc: Global, body: &[u8], writes: bool) -> usize {
+    let Ok((item, taken)) = read_wire(alloc, body) else {
+        return 0;
+    };
+    if !writes {
+        return taken;
+    }
+    match write_det(alloc, &item) {
+        Ok(blob) => blob.as_list().len(),
+        Err(_) => 0,
+    }
+}
+
+fn open(alloc: Global, body: &[u8], walks: bool) -> usize {
+    match Cursor::open(alloc, body) {
+        Ok((cursor, taken)) => { if walks { walk(&cursor, 16) } else { taken } }
+        Err(_) => 0,
+    }
+}
+
+/// How many bytes the parts show that nothing stands in.
+fn walk(cursor: &Cursor, levels: u8) -> usize {
+    if let Some(content) = cursor.content() {
+        return content.len();
+    }
+    let Some(first) = cursor.inside() else {
+        return cursor.raw().len();
+    };
+    if levels == 0 {
+        return 0;
+    }
+    let mut sum = 0usize;
+    let mut part = first;
+    for _part in 0..u64::MAX {
+        sum = sum.saturating_add(walk(&part, levels - 1));
+        match part.after() {
+            Some(next) => part = next,
+            None => break,
         }
     }
     sum

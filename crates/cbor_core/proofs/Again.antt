@@ -63,7 +63,7 @@ module _ (strict : Bool) (total : ℕ) (read : List ℕ → Read Item) (spells :
       some b.0 b.1
 
   -- what a head that is spelled says, and what is behind it
-  head_is : (m : Major) (n : ℕ) (text rest : List ℕ) (h : IsHead strict m n text) (place : ℕ) → head_at place (text ++ rest) ≡ Ok (heads.Sized m n (is_shortest h.form n), rest)
+  head_is : (m : Major) (n : ℕ) (text rest : List ℕ) (h : IsHead strict m n text) (place : ℕ) → head_at place (text ++ rest) ≡ Ok (heads.Sized m (is_shortest h.form n) n, rest)
   head_is m n text rest h place = ap (λ t. head_at place (t ++ rest)) h.bytes ∙ head_again place m h.form n rest h.fits
 
   -- what a reading gives at a head and what is behind it
@@ -79,7 +79,7 @@ module _ (strict : Bool) (total : ℕ) (read : List ℕ → Read Item) (spells :
   sized_again : (m : Major) (n : ℕ) (x : Item) (head mid text rest : List ℕ) (h : IsHead strict m n head) → text ≡ head ++ mid
       → ((s : Bool) (place : ℕ) → (strict ≡ true → s ≡ true) → sized_in strict total read place m n s mid ≡ Ok (x, rest)) → IsRead x text rest
   sized_again m n x head mid text rest h e content = record {
-    head = heads.Sized m n (is_shortest h.form n);
+    head = heads.Sized m (is_shortest h.form n) n;
     mid = mid;
     has_head = λ place. ap (head_at place) e ∙ head_is m n head mid h place;
     has_content = λ place. content (is_shortest h.form n) place h.shortest;

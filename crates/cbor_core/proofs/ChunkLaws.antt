@@ -79,8 +79,8 @@ not_first k = go (eqb (suc k) 0) refl
     go true e = let zero-is : suc k ≡ 0 = eqb-true (suc k) 0 e in absurd (omega arith)
     go false e = refl
 
-sized_chunk : (total : ℕ) (m : Major) (b text rest : List ℕ) (index : ℕ) (s : Bool) (h : IsString false m b text) → content_in (heads.Sized m (length b) s) (b ++ rest) ≡ Some b
-    → StringChunk m b text index (chunk_behind total index (heads.Sized m (length b) s) (b ++ rest))
+sized_chunk : (total : ℕ) (m : Major) (b text rest : List ℕ) (index : ℕ) (s : Bool) (h : IsString false m b text) → content_in (heads.Sized m s (length b)) (b ++ rest) ≡ Some b
+    → StringChunk m b text index (chunk_behind total index (heads.Sized m s (length b)) (b ++ rest))
 sized_chunk total m b text rest zero s h e = inl (h, e)
 sized_chunk total m b text rest (suc index) s h e = rw (not_first index) (inl (h, refl))
 
@@ -89,44 +89,44 @@ open_chunk : (total : ℕ) (m : Major) → IsStringType m → (b text after : Li
 open_chunk total m kind b text after index h =
     inr (h, ap (chunk_at total m index) (append_assoc h.has_chunks.row (255 ∷ []) after) ∙ chunk_is total m kind [] h.chunks index h.has_chunks.row after h.has_chunks.has_row)
 
-none_sized : (total index : ℕ) (m : Major) (n : ℕ) (s : Bool) (rest : List ℕ) → content_in (heads.Sized m n s) rest ≡ None → chunk_behind total index (heads.Sized m n s) rest ≡ None
+none_sized : (total index : ℕ) (m : Major) (n : ℕ) (s : Bool) (rest : List ℕ) → content_in (heads.Sized m s n) rest ≡ None → chunk_behind total index (heads.Sized m s n) rest ≡ None
 none_sized total zero m n s rest e = e
 none_sized total (suc index) m n s rest e = rw (not_first index) refl
 
 layer_chunk : (spells : Item → List ℕ → Type 0) (total index : ℕ) (f : Item-F Item) (text after : List ℕ) (y : Head × List ℕ) → SpellsLayer false spells f text → head_at 0 (text ++ after) ≡ Ok y
     → ChunkOf f text index (chunk_behind total index y.0 y.1)
 layer_chunk spells total index (Item-F.Uint n) text after y h e =
-    of_head (λ y. chunk_behind total index y.0 y.1 ≡ None) (text ++ after) (heads.Sized major.Unsigned n (is_shortest h.form n), after) y (head_reads major.Unsigned n text after h 0) e (none_sized total index major.Unsigned n (is_shortest h.form n) after refl)
+    of_head (λ y. chunk_behind total index y.0 y.1 ≡ None) (text ++ after) (heads.Sized major.Unsigned (is_shortest h.form n) n, after) y (head_reads major.Unsigned n text after h 0) e (none_sized total index major.Unsigned n (is_shortest h.form n) after refl)
 layer_chunk spells total index (Item-F.Nint n) text after y h e =
-    of_head (λ y. chunk_behind total index y.0 y.1 ≡ None) (text ++ after) (heads.Sized major.Negative n (is_shortest h.form n), after) y (head_reads major.Negative n text after h 0) e (none_sized total index major.Negative n (is_shortest h.form n) after refl)
+    of_head (λ y. chunk_behind total index y.0 y.1 ≡ None) (text ++ after) (heads.Sized major.Negative (is_shortest h.form n) n, after) y (head_reads major.Negative n text after h 0) e (none_sized total index major.Negative n (is_shortest h.form n) after refl)
 layer_chunk spells total index (Item-F.Bytes b) text after y (inl h) e =
-    of_head (λ y. StringChunk major.Bytes b text index (chunk_behind total index y.0 y.1)) (text ++ after) (heads.Sized major.Bytes (length b) (is_shortest h.has_head.form (length b)), b ++ after) y (string_head major.Bytes b text after h) e
+    of_head (λ y. StringChunk major.Bytes b text index (chunk_behind total index y.0 y.1)) (text ++ after) (heads.Sized major.Bytes (is_shortest h.has_head.form (length b)) (length b), b ++ after) y (string_head major.Bytes b text after h) e
     (sized_chunk total major.Bytes b text after index (is_shortest h.has_head.form (length b)) h (front_content b after))
 layer_chunk spells total index (Item-F.Bytes b) text after y (inr h) e =
     of_head (λ y. StringChunk major.Bytes b text index (chunk_behind total index y.0 y.1)) (text ++ after) (heads.Open major.Bytes, (h.has_chunks.row ++ 255 ∷ []) ++ after) y (chunked_head major.Bytes b text after h) e
     (open_chunk total major.Bytes tt b text after index h)
 layer_chunk spells total index (Item-F.Text b) text after y (inl h) e =
-    of_head (λ y. StringChunk major.Text b text index (chunk_behind total index y.0 y.1)) (text ++ after) (heads.Sized major.Text (length b) (is_shortest h.has_head.form (length b)), b ++ after) y (string_head major.Text b text after h) e
+    of_head (λ y. StringChunk major.Text b text index (chunk_behind total index y.0 y.1)) (text ++ after) (heads.Sized major.Text (is_shortest h.has_head.form (length b)) (length b), b ++ after) y (string_head major.Text b text after h) e
     (sized_chunk total major.Text b text after index (is_shortest h.has_head.form (length b)) h (front_content b after))
 layer_chunk spells total index (Item-F.Text b) text after y (inr h) e =
     of_head (λ y. StringChunk major.Text b text index (chunk_behind total index y.0 y.1)) (text ++ after) (heads.Open major.Text, (h.has_chunks.row ++ 255 ∷ []) ++ after) y (chunked_head major.Text b text after h) e
     (open_chunk total major.Text tt b text after index h)
 layer_chunk spells total index (Item-F.Array xs) text after y (inl h) e =
-    of_head (λ y. chunk_behind total index y.0 y.1 ≡ None) (text ++ after) (heads.Sized major.Array (length xs) (is_shortest h.has_head.form (length xs)), h.row ++ after) y
+    of_head (λ y. chunk_behind total index y.0 y.1 ≡ None) (text ++ after) (heads.Sized major.Array (is_shortest h.has_head.form (length xs)) (length xs), h.row ++ after) y
     (ap (λ t. head_at 0 (t ++ after)) h.bytes ∙ ap (head_at 0) (append_assoc h.head h.row after) ∙ head_reads major.Array (length xs) h.head (h.row ++ after) h.has_head 0) e
     (none_sized total index major.Array (length xs) (is_shortest h.has_head.form (length xs)) (h.row ++ after) refl)
 layer_chunk spells total index (Item-F.Array xs) text after y (inr h) e =
     of_head (λ y. chunk_behind total index y.0 y.1 ≡ None) (text ++ after) (heads.Open major.Array, (h.row ++ 255 ∷ []) ++ after) y
     (ap (λ t. head_at 0 (t ++ after)) h.bytes ∙ open_again 0 major.Array ((h.row ++ 255 ∷ []) ++ after)) e refl
 layer_chunk spells total index (Item-F.Map ps) text after y (inl h) e =
-    of_head (λ y. chunk_behind total index y.0 y.1 ≡ None) (text ++ after) (heads.Sized major.Map (length ps) (is_shortest h.has_head.form (length ps)), h.row ++ after) y
+    of_head (λ y. chunk_behind total index y.0 y.1 ≡ None) (text ++ after) (heads.Sized major.Map (is_shortest h.has_head.form (length ps)) (length ps), h.row ++ after) y
     (ap (λ t. head_at 0 (t ++ after)) h.bytes ∙ ap (head_at 0) (append_assoc h.head h.row after) ∙ head_reads major.Map (length ps) h.head (h.row ++ after) h.has_head 0) e
     (none_sized total index major.Map (length ps) (is_shortest h.has_head.form (length ps)) (h.row ++ after) refl)
 layer_chunk spells total index (Item-F.Map ps) text after y (inr h) e =
     of_head (λ y. chunk_behind total index y.0 y.1 ≡ None) (text ++ after) (heads.Open major.Map, (h.row ++ 255 ∷ []) ++ after) y
     (ap (λ t. head_at 0 (t ++ after)) h.bytes ∙ open_again 0 major.Map ((h.row ++ 255 ∷ []) ++ after)) e refl
 layer_chunk spells total index (Item-F.Tag t x) text after y h e =
-    of_head (λ y. chunk_behind total index y.0 y.1 ≡ None) (text ++ after) (heads.Sized major.Tag t (is_shortest h.has_head.form t), h.content ++ after) y
+    of_head (λ y. chunk_behind total index y.0 y.1 ≡ None) (text ++ after) (heads.Sized major.Tag (is_shortest h.has_head.form t) t, h.content ++ after) y
     (ap (λ u. head_at 0 (u ++ after)) h.bytes ∙ ap (head_at 0) (append_assoc h.head h.content after) ∙ head_reads major.Tag t h.head (h.content ++ after) h.has_head 0) e
     (none_sized total index major.Tag t (is_shortest h.has_head.form t) (h.content ++ after) refl)
 layer_chunk spells total index (Item-F.Simple n) text after y h e =

@@ -75,28 +75,28 @@ module _ (total levels : ℕ) where
   Counts f y = (o : Option ℕ) → CountBehind total levels y.0 y.1 o → o ≡ count_in f
 
   layer_count : (f : Item-F Item) (text after : List ℕ) (y : Head × List ℕ) → SpellsLayer false spells f text → head_at 0 (text ++ after) ≡ Ok y → Counts f y
-  layer_count (Item-F.Uint n) text after y h e = of_head (Counts (Item-F.Uint n)) (text ++ after) (heads.Sized major.Unsigned n (is_shortest h.form n), after) y (head_reads major.Unsigned n text after h 0) e (λ o k. k)
-  layer_count (Item-F.Nint n) text after y h e = of_head (Counts (Item-F.Nint n)) (text ++ after) (heads.Sized major.Negative n (is_shortest h.form n), after) y (head_reads major.Negative n text after h 0) e (λ o k. k)
-  layer_count (Item-F.Bytes b) text after y (inl h) e = of_head (Counts (Item-F.Bytes b)) (text ++ after) (heads.Sized major.Bytes (length b) (is_shortest h.has_head.form (length b)), b ++ after) y (string_head major.Bytes b text after h) e (λ o k. k)
+  layer_count (Item-F.Uint n) text after y h e = of_head (Counts (Item-F.Uint n)) (text ++ after) (heads.Sized major.Unsigned (is_shortest h.form n) n, after) y (head_reads major.Unsigned n text after h 0) e (λ o k. k)
+  layer_count (Item-F.Nint n) text after y h e = of_head (Counts (Item-F.Nint n)) (text ++ after) (heads.Sized major.Negative (is_shortest h.form n) n, after) y (head_reads major.Negative n text after h 0) e (λ o k. k)
+  layer_count (Item-F.Bytes b) text after y (inl h) e = of_head (Counts (Item-F.Bytes b)) (text ++ after) (heads.Sized major.Bytes (is_shortest h.has_head.form (length b)) (length b), b ++ after) y (string_head major.Bytes b text after h) e (λ o k. k)
   layer_count (Item-F.Bytes b) text after y (inr h) e = of_head (Counts (Item-F.Bytes b)) (text ++ after) (heads.Open major.Bytes, (h.has_chunks.row ++ 255 ∷ []) ++ after) y (chunked_head major.Bytes b text after h) e (λ o k. k)
-  layer_count (Item-F.Text b) text after y (inl h) e = of_head (Counts (Item-F.Text b)) (text ++ after) (heads.Sized major.Text (length b) (is_shortest h.has_head.form (length b)), b ++ after) y (string_head major.Text b text after h) e (λ o k. k)
+  layer_count (Item-F.Text b) text after y (inl h) e = of_head (Counts (Item-F.Text b)) (text ++ after) (heads.Sized major.Text (is_shortest h.has_head.form (length b)) (length b), b ++ after) y (string_head major.Text b text after h) e (λ o k. k)
   layer_count (Item-F.Text b) text after y (inr h) e = of_head (Counts (Item-F.Text b)) (text ++ after) (heads.Open major.Text, (h.has_chunks.row ++ 255 ∷ []) ++ after) y (chunked_head major.Text b text after h) e (λ o k. k)
   layer_count (Item-F.Array xs) text after y (inl h) e =
-      of_head (Counts (Item-F.Array xs)) (text ++ after) (heads.Sized major.Array (length xs) (is_shortest h.has_head.form (length xs)), h.row ++ after) y
+      of_head (Counts (Item-F.Array xs)) (text ++ after) (heads.Sized major.Array (is_shortest h.has_head.form (length xs)) (length xs), h.row ++ after) y
       (ap (λ t. head_at 0 (t ++ after)) h.bytes ∙ ap (head_at 0) (append_assoc h.head h.row after) ∙ head_reads major.Array (length xs) h.head (h.row ++ after) h.has_head 0) e (λ o k. k)
   layer_count (Item-F.Array xs) text after y (inr h) e =
       of_head (Counts (Item-F.Array xs)) (text ++ after) (heads.Open major.Array, h.row ++ 255 ∷ after) y
       (ap (λ t. head_at 0 (t ++ after)) h.bytes ∙ open_again 0 major.Array ((h.row ++ 255 ∷ []) ++ after) ∙ ap (λ (t : List ℕ). Ok (heads.Open major.Array, t)) (append_assoc h.row (255 ∷ []) after)) e
       (λ o k. k (length xs) after (items_counted xs h.row after h.has_row))
   layer_count (Item-F.Map ps) text after y (inl h) e =
-      of_head (Counts (Item-F.Map ps)) (text ++ after) (heads.Sized major.Map (length ps) (is_shortest h.has_head.form (length ps)), h.row ++ after) y
+      of_head (Counts (Item-F.Map ps)) (text ++ after) (heads.Sized major.Map (is_shortest h.has_head.form (length ps)) (length ps), h.row ++ after) y
       (ap (λ t. head_at 0 (t ++ after)) h.bytes ∙ ap (head_at 0) (append_assoc h.head h.row after) ∙ head_reads major.Map (length ps) h.head (h.row ++ after) h.has_head 0) e (λ o k. k)
   layer_count (Item-F.Map ps) text after y (inr h) e =
       of_head (Counts (Item-F.Map ps)) (text ++ after) (heads.Open major.Map, h.row ++ 255 ∷ after) y
       (ap (λ t. head_at 0 (t ++ after)) h.bytes ∙ open_again 0 major.Map ((h.row ++ 255 ∷ []) ++ after) ∙ ap (λ (t : List ℕ). Ok (heads.Open major.Map, t)) (append_assoc h.row (255 ∷ []) after)) e
       (λ o k. k (length ps) after (pairs_counted ps h.row after h.has_row))
   layer_count (Item-F.Tag t x) text after y h e =
-      of_head (Counts (Item-F.Tag t x)) (text ++ after) (heads.Sized major.Tag t (is_shortest h.has_head.form t), h.content ++ after) y
+      of_head (Counts (Item-F.Tag t x)) (text ++ after) (heads.Sized major.Tag (is_shortest h.has_head.form t) t, h.content ++ after) y
       (ap (λ u. head_at 0 (u ++ after)) h.bytes ∙ ap (head_at 0) (append_assoc h.head h.content after) ∙ head_reads major.Tag t h.head (h.content ++ after) h.has_head 0) e (λ o k. k)
   layer_count (Item-F.Simple n) text after y h e = of_head (Counts (Item-F.Simple n)) (text ++ after) (heads.Simple n, after) y (simple_again 0 n text after h) e (λ o k. k)
 

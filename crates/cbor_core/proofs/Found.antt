@@ -76,7 +76,7 @@ module _ (strict : Bool) (total : ℕ) (read : List ℕ → Read Item) (spells :
   -- the elements of a container, behind its head
   counted : {A : Type 0} (m : Major) (elements : List A → A → List ℕ → Type 0) (step : List A → List ℕ → Read (List A))
       → ((before : List A) (bytes : List ℕ) (next : List A × List ℕ) → IsBytes bytes → step before bytes ≡ Ok next → HasNext step (λ xs. xs) elements before bytes next)
-      → (n : ℕ) (s : Bool) (bytes mid : List ℕ) (all : List A × List ℕ) → (strict ≡ true → s ≡ true) → HasText (SpellsHead (heads.Sized m n s)) bytes mid → row_at step n [] mid ≡ Ok all
+      → (n : ℕ) (s : Bool) (bytes mid : List ℕ) (all : List A × List ℕ) → (strict ≡ true → s ≡ true) → HasText (SpellsHead (heads.Sized m s n)) bytes mid → row_at step n [] mid ≡ Ok all
       → HasText (IsCounted elements strict m all.0) bytes all.1
   counted m elements step one n s bytes mid all short h e =
       let r = row_found step (λ xs. xs) elements one n [] mid all h.taken.rest_fits e in
@@ -122,15 +122,15 @@ module _ (strict : Bool) (total : ℕ) (read : List ℕ → Read Item) (spells :
   turn_into : (P Q : List ℕ → Type 0) (bytes rest : List ℕ) → ((t : List ℕ) → P t → Q t) → HasText P bytes rest → HasText Q bytes rest
   turn_into P Q bytes rest f h = record { text = h.text; spelled = f h.text h.spelled; taken = h.taken }
 
-  sized_found : (place : ℕ) (m : Major) (n : ℕ) (s : Bool) (bytes mid : List ℕ) (x : Item × List ℕ) → HasText (SpellsHead (heads.Sized m n s)) bytes mid
+  sized_found : (place : ℕ) (m : Major) (n : ℕ) (s : Bool) (bytes mid : List ℕ) (x : Item × List ℕ) → HasText (SpellsHead (heads.Sized m s n)) bytes mid
       → sized_in strict total read place m n s mid ≡ Ok x → layer x bytes
   sized_found place major.Unsigned n s bytes mid x h e =
       let d = bind_ok (demanded strict s place) (λ u. Ok (items.Uint n, mid)) x e in
-      let good = turn_into (SpellsHead (heads.Sized major.Unsigned n s)) (IsHead strict major.Unsigned n) bytes mid (λ t. is_head strict major.Unsigned n s t (demand_met strict s place d.0 d.1)) h in
+      let good = turn_into (SpellsHead (heads.Sized major.Unsigned s n)) (IsHead strict major.Unsigned n) bytes mid (λ t. is_head strict major.Unsigned n s t (demand_met strict s place d.0 d.1)) h in
       subst (λ y. layer y bytes) (ok_is (items.Uint n, mid) x d.2) (enter (items.Uint n) (Item-F.Uint n) bytes mid (items.outs-Uint n) good)
   sized_found place major.Negative n s bytes mid x h e =
       let d = bind_ok (demanded strict s place) (λ u. Ok (items.Nint n, mid)) x e in
-      let good = turn_into (SpellsHead (heads.Sized major.Negative n s)) (IsHead strict major.Negative n) bytes mid (λ t. is_head strict major.Negative n s t (demand_met strict s place d.0 d.1)) h in
+      let good = turn_into (SpellsHead (heads.Sized major.Negative s n)) (IsHead strict major.Negative n) bytes mid (λ t. is_head strict major.Negative n s t (demand_met strict s place d.0 d.1)) h in
       subst (λ y. layer y bytes) (ok_is (items.Nint n, mid) x d.2) (enter (items.Nint n) (Item-F.Nint n) bytes mid (items.outs-Nint n) good)
   sized_found place major.Bytes n s bytes mid x h e =
       let c = bind_ok (content_at place major.Bytes n mid) (λ c. demanded strict s place >>= λ u. Ok (items.Bytes c.0, c.1)) x e in
@@ -203,7 +203,7 @@ module _ (strict : Bool) (total : ℕ) (read : List ℕ → Read Item) (spells :
   loose_found place major.Tag bytes mid x h e = absurd cc
 
   content_in_found : (place : ℕ) (head : Head) (bytes mid : List ℕ) (x : Item × List ℕ) → HasText (SpellsHead head) bytes mid → item_in strict total read place head mid ≡ Ok x → layer x bytes
-  content_in_found place (heads.Sized m n s) bytes mid x h e = sized_found place m n s bytes mid x h e
+  content_in_found place (heads.Sized m s n) bytes mid x h e = sized_found place m n s bytes mid x h e
   content_in_found place (heads.Open m) bytes mid x h e = loose_found place m bytes mid x h e
   content_in_found place (heads.Simple n) bytes mid x h e = subst (λ y. layer y bytes) (ok_is (items.Simple n, mid) x e) (enter (items.Simple n) (Item-F.Simple n) bytes mid (items.outs-Simple n) h)
   content_in_found place heads.Float bytes mid x h e = absurd cc
@@ -231,7 +231,7 @@ buried_open_fails place major.Map x e = cc
 buried_open_fails place major.Tag x e = cc
 
 pub buried_fails : (place : ℕ) (head : Head) (mid : List ℕ) (x : Item × List ℕ) → buried_in place head mid ≡ Ok x → ⊥
-buried_fails place (heads.Sized m n s) mid x e = buried_sized_fails place m n mid x e
+buried_fails place (heads.Sized m s n) mid x e = buried_sized_fails place m n mid x e
 buried_fails place (heads.Open m) mid x e = buried_open_fails place m x e
 buried_fails place (heads.Simple n) mid x e = cc
 buried_fails place heads.Float mid x e = cc

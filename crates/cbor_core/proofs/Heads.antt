@@ -86,7 +86,7 @@ low_is c low lt = omega arith
 -- ---- what is read was spelled
 
 abbrev pub SpellsHead : Head → List ℕ → Type 0
-SpellsHead (heads.Sized m n s) text = (form : Size) × FitsIn form n × (s ≡ is_shortest form n) × (text ≡ head_in m form n)
+SpellsHead (heads.Sized m s n) text = (form : Size) × FitsIn form n × (s ≡ is_shortest form n) × (text ≡ head_in m form n)
 SpellsHead (heads.Open m) text = text ≡ (32 * code m + 31) ∷ []
 SpellsHead (heads.Simple n) text = IsSimple n text
 SpellsHead heads.Float text = Unit {0}
@@ -109,11 +109,11 @@ none_found first h rest x fits spelled e = subst (λ (y : Head × List ℕ). Rea
 argument_found : (place : ℕ) (m : Major) (s : Size) (low : ℕ) (rest : List ℕ) (x : Head × List ℕ) → IsInfo s low → IsBytes rest
     → argument_at place m s low rest ≡ Ok x → ReadsHead (32 * code m + low) x rest
 unfolding argument_at
-argument_found place m size.Inside low rest x info fits e = none_found (32 * code m + low) (heads.Sized m low true) rest x fits (size.Inside, info, refl, refl) e
-argument_found place m size.One low rest x info fits e = rw info (wide_found w8 (2 ^ 8) wide8 place (32 * code m + 24) (λ n. heads.Sized m n (is_shortest size.One n)) rest x fits (λ n lt. (size.One, lt, refl, refl)) e)
-argument_found place m size.Two low rest x info fits e = rw info (wide_found w16 (2 ^ 16) wide16 place (32 * code m + 25) (λ n. heads.Sized m n (is_shortest size.Two n)) rest x fits (λ n lt. (size.Two, lt, refl, refl)) e)
-argument_found place m size.Four low rest x info fits e = rw info (wide_found w32 (2 ^ 32) wide32 place (32 * code m + 26) (λ n. heads.Sized m n (is_shortest size.Four n)) rest x fits (λ n lt. (size.Four, lt, refl, refl)) e)
-argument_found place m size.Eight low rest x info fits e = rw info (wide_found w64 (2 ^ 64) wide64 place (32 * code m + 27) (λ n. heads.Sized m n (is_shortest size.Eight n)) rest x fits (λ n lt. (size.Eight, lt, refl, refl)) e)
+argument_found place m size.Inside low rest x info fits e = none_found (32 * code m + low) (heads.Sized m true low) rest x fits (size.Inside, info, refl, refl) e
+argument_found place m size.One low rest x info fits e = rw info (wide_found w8 (2 ^ 8) wide8 place (32 * code m + 24) (λ n. heads.Sized m (is_shortest size.One n) n) rest x fits (λ n lt. (size.One, lt, refl, refl)) e)
+argument_found place m size.Two low rest x info fits e = rw info (wide_found w16 (2 ^ 16) wide16 place (32 * code m + 25) (λ n. heads.Sized m (is_shortest size.Two n) n) rest x fits (λ n lt. (size.Two, lt, refl, refl)) e)
+argument_found place m size.Four low rest x info fits e = rw info (wide_found w32 (2 ^ 32) wide32 place (32 * code m + 26) (λ n. heads.Sized m (is_shortest size.Four n) n) rest x fits (λ n lt. (size.Four, lt, refl, refl)) e)
+argument_found place m size.Eight low rest x info fits e = rw info (wide_found w64 (2 ^ 64) wide64 place (32 * code m + 27) (λ n. heads.Sized m (is_shortest size.Eight n) n) rest x fits (λ n lt. (size.Eight, lt, refl, refl)) e)
 argument_found place m size.Reserved low rest x info fits e = none_found (32 * code m + low) heads.Reserved rest x fits tt e
 argument_found place m size.Indefinite low rest x info fits e = none_found (32 * code m + low) (heads.Open m) rest x fits (ap (λ k. (32 * code m + k) ∷ []) info) e
 
@@ -182,7 +182,7 @@ info_small size.Reserved n fits = absurd fits
 info_small size.Indefinite n fits = absurd fits
 
 argument_again : (place : ℕ) (m : Major) (form : Size) (n : ℕ) (rest : List ℕ) → FitsIn form n
-    → argument_at place m form (info_in form n) (bytes_in form n ++ rest) ≡ Ok (heads.Sized m n (is_shortest form n), rest)
+    → argument_at place m form (info_in form n) (bytes_in form n ++ rest) ≡ Ok (heads.Sized m (is_shortest form n) n, rest)
 unfolding argument_at
 argument_again place m size.Inside n rest fits = refl
 argument_again place m size.One n rest fits = rw (number_again w8 (2 ^ 8) wide8 place n rest fits) refl
@@ -192,7 +192,7 @@ argument_again place m size.Eight n rest fits = rw (number_again w64 (2 ^ 64) wi
 argument_again place m size.Reserved n rest fits = absurd fits
 argument_again place m size.Indefinite n rest fits = absurd fits
 
-pub head_again : (place : ℕ) (m : Major) (form : Size) (n : ℕ) (rest : List ℕ) → FitsIn form n → head_at place (head_in m form n ++ rest) ≡ Ok (heads.Sized m n (is_shortest form n), rest)
+pub head_again : (place : ℕ) (m : Major) (form : Size) (n : ℕ) (rest : List ℕ) → FitsIn form n → head_at place (head_in m form n ++ rest) ≡ Ok (heads.Sized m (is_shortest form n) n, rest)
 unfolding head_at
 head_again place m form n rest fits =
     let small = info_small form n fits in

@@ -1,5 +1,5 @@
 -- Keys' spellings as a set: what is asked of the set is asked of the keys.
-use Rattle.std.proofs.Common.{◌≡◌, ℕ, Bool, true, false, ◌||◌, List, [], ◌∷◌, Ordering, Less, Equal, Greater, All, refl, sym, ap, ◌∙◌}
+use Rattle.std.proofs.Common.{◌≡◌, ℕ, Bool, true, false, ◌||◌, List, [], ◌∷◌, ◌++◌, Ordering, Less, Equal, Greater, All, refl, sym, ap, ◌∙◌}
 use Rattle.std.specs.Prelude.{fold}
 use Rattle.std.specs.List.{list_any}
 use Rattle.std.specs.Ordering.{nat_cmp, is_eq, is_lt, is_gt, ordering_reverse, match_ordering}
@@ -7,11 +7,14 @@ use Rattle.std.specs.Cmp.{Equal-is}
 use Rattle.std.specs.Cmp.Lexicographic.{slice_cmp}
 use Rattle.std.specs.BTreeSet.{insert_key}
 use Rattle.std.proofs.lemmas.Cmp.{nat_list_cmp_total, upto, alike_right}
+use Rattle.std.proofs.lemmas.List.{map-append}
 use Rattle.std.proofs.lemmas.List.Folds.{list_any_none}
 use Rattle.std.proofs.lemmas.List.Elements.{All-weaker}
 use Rattle.std.proofs.lemmas.Map.Lookups.{exact_bytes}
+use Rattle.cbor_core.specs.declared.item.Item.{Item}
+use Rattle.cbor_core.specs.Deterministic.{det}
 use Rattle.cbor_core.specs.Keys.{key_set}
-use Rattle.cbor_core.specs.Reading.{admitted}
+use Rattle.cbor_core.specs.Reading.{admitted, key_spellings}
 
 abbrev bytewise : List ℕ → List ℕ → Ordering
 bytewise = slice_cmp nat_cmp
@@ -87,3 +90,11 @@ set_any p keys = inserted_any p [] keys
 
 pub admitted_by_set : (strict : Bool) (place : ℕ) (keys : List (List ℕ)) (k : List ℕ) → admitted strict place (key_set keys) k ≡ admitted strict place keys k
 admitted_by_set strict place keys k = rw (set_any (λ q. is_eq (slice_cmp nat_cmp k q)) keys, set_any (λ q. is_lt (slice_cmp nat_cmp k q)) keys) refl
+
+pub set_push : (set keys : List (List ℕ)) (k : List ℕ) → fold (insert_key (slice_cmp nat_cmp)) set (keys ++ k ∷ []) ≡ insert_key (slice_cmp nat_cmp) (fold (insert_key (slice_cmp nat_cmp)) set keys) k
+set_push set [] k = refl
+set_push set (q ∷ qs) k = set_push (insert_key (slice_cmp nat_cmp) set q) qs k
+
+-- one more pair puts its key into the set
+pub key_set_push : (front : List (Item × Item)) (key value : Item) → key_set (key_spellings (front ++ (key, value) ∷ [])) ≡ insert_key (slice_cmp nat_cmp) (key_set (key_spellings front)) (det key)
+key_set_push front key value = ap key_set (map-append (λ (p : Item × Item). det p.0) front ((key, value) ∷ [])) ∙ set_push [] (key_spellings front) (det key)

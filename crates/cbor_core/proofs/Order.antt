@@ -53,7 +53,7 @@ above_push k (p ∷ ps) q h e = (h.0, above_push k ps q h.1 e)
 pub less_greater : (a b : List ℕ) → bytewise a b ≡ Less → bytewise b a ≡ Greater
 less_greater a b e = nat_list_cmp_total.antisymm b a ∙ ap ordering_reverse e
 
-greater_less : (a b : List ℕ) → bytewise a b ≡ Greater → bytewise b a ≡ Less
+pub greater_less : (a b : List ℕ) → bytewise a b ≡ Greater → bytewise b a ≡ Less
 greater_less a b e = nat_list_cmp_total.antisymm b a ∙ ap ordering_reverse e
 
 module _ {X : Type 0} where

@@ -213,13 +213,13 @@ one_row : (levels : ℕ) (x : Item) (text : List ℕ) → SpellsWithin false lev
 unfolding SpellsRow
 one_row levels x text h = (text, [], h, refl, sym (append-nil text))
 
-pub head_reads : (m : Major) (n : ℕ) (head mid : List ℕ) (h : IsHead false m n head) (place : ℕ) → head_at place (head ++ mid) ≡ Ok (heads.Sized m n (is_shortest h.form n), mid)
+pub head_reads : (m : Major) (n : ℕ) (head mid : List ℕ) (h : IsHead false m n head) (place : ℕ) → head_at place (head ++ mid) ≡ Ok (heads.Sized m (is_shortest h.form n) n, mid)
 head_reads m n head mid h place = ap (λ t. head_at place (t ++ mid)) h.bytes ∙ head_again place m h.form n mid h.fits
 
 sized_enters : (levels : ℕ) (f : Item-F Item) (m : Major) (n : ℕ) (head mid tail : List ℕ) (h : IsHead false m n head) → tail ≡ head ++ mid
-    → Holds levels (entry_of (heads.Sized m n (is_shortest h.form n))) (inner_in f) mid → code m ≡ major_in f → head_number (heads.Sized m n (is_shortest h.form n)) ≡ number_in f → Enters levels f tail
+    → Holds levels (entry_of (heads.Sized m (is_shortest h.form n) n)) (inner_in f) mid → code m ≡ major_in f → head_number (heads.Sized m (is_shortest h.form n) n) ≡ number_in f → Enters levels f tail
 sized_enters levels f m n head mid tail h e holds major number = record {
-  head = heads.Sized m n (is_shortest h.form n);
+  head = heads.Sized m (is_shortest h.form n) n;
   front = head;
   mid = mid;
   reads = λ place. ap (head_at place) e ∙ head_reads m n head mid h place;
@@ -371,39 +371,39 @@ of_head P tail x y a b h = subst P (ok_is x y (sym a ∙ b)) h
 pub front_content : (b after : List ℕ) → cond (ltb (length (b ++ after)) (length b)) None (Some (take (length b) (b ++ after))) ≡ Some b
 front_content b after = rw (le-ltb (length (b ++ after)) (length b) (omega (arith, length-append b after)), take_at b after (length b) refl) refl
 
-pub string_head : (m : Major) (b text after : List ℕ) (h : IsString false m b text) → head_at 0 (text ++ after) ≡ Ok (heads.Sized m (length b) (is_shortest h.has_head.form (length b)), b ++ after)
+pub string_head : (m : Major) (b text after : List ℕ) (h : IsString false m b text) → head_at 0 (text ++ after) ≡ Ok (heads.Sized m (is_shortest h.has_head.form (length b)) (length b), b ++ after)
 string_head m b text after h = ap (λ t. head_at 0 (t ++ after)) h.bytes ∙ ap (head_at 0) (append_assoc h.head b after) ∙ head_reads m (length b) h.head (b ++ after) h.has_head 0
 
 pub chunked_head : (m : Major) (b text after : List ℕ) (h : IsChunked false m b text) → head_at 0 (text ++ after) ≡ Ok (heads.Open m, (h.has_chunks.row ++ 255 ∷ []) ++ after)
 chunked_head m b text after h = ap (λ t. head_at 0 (t ++ after)) h.has_chunks.bytes ∙ open_again 0 m ((h.has_chunks.row ++ 255 ∷ []) ++ after)
 
 layer_content : (spells : Item → List ℕ → Type 0) (f : Item-F Item) (text after : List ℕ) (y : Head × List ℕ) → SpellsLayer false spells f text → head_at 0 (text ++ after) ≡ Ok y → ContentOf f text (content_in y.0 y.1)
-layer_content spells (Item-F.Uint n) text after y h e = of_head (λ y. content_in y.0 y.1 ≡ None) (text ++ after) (heads.Sized major.Unsigned n (is_shortest h.form n), after) y (head_reads major.Unsigned n text after h 0) e refl
-layer_content spells (Item-F.Nint n) text after y h e = of_head (λ y. content_in y.0 y.1 ≡ None) (text ++ after) (heads.Sized major.Negative n (is_shortest h.form n), after) y (head_reads major.Negative n text after h 0) e refl
+layer_content spells (Item-F.Uint n) text after y h e = of_head (λ y. content_in y.0 y.1 ≡ None) (text ++ after) (heads.Sized major.Unsigned (is_shortest h.form n) n, after) y (head_reads major.Unsigned n text after h 0) e refl
+layer_content spells (Item-F.Nint n) text after y h e = of_head (λ y. content_in y.0 y.1 ≡ None) (text ++ after) (heads.Sized major.Negative (is_shortest h.form n) n, after) y (head_reads major.Negative n text after h 0) e refl
 layer_content spells (Item-F.Bytes b) text after y (inl h) e =
-    of_head (λ y. StringContent major.Bytes b text (content_in y.0 y.1)) (text ++ after) (heads.Sized major.Bytes (length b) (is_shortest h.has_head.form (length b)), b ++ after) y (string_head major.Bytes b text after h) e
+    of_head (λ y. StringContent major.Bytes b text (content_in y.0 y.1)) (text ++ after) (heads.Sized major.Bytes (is_shortest h.has_head.form (length b)) (length b), b ++ after) y (string_head major.Bytes b text after h) e
     (subst (StringContent major.Bytes b text) (sym (front_content b after)) (h, refl))
 layer_content spells (Item-F.Bytes b) text after y (inr h) e =
     of_head (λ y. StringContent major.Bytes b text (content_in y.0 y.1)) (text ++ after) (heads.Open major.Bytes, (h.has_chunks.row ++ 255 ∷ []) ++ after) y (chunked_head major.Bytes b text after h) e h
 layer_content spells (Item-F.Text b) text after y (inl h) e =
-    of_head (λ y. StringContent major.Text b text (content_in y.0 y.1)) (text ++ after) (heads.Sized major.Text (length b) (is_shortest h.has_head.form (length b)), b ++ after) y (string_head major.Text b text after h) e
+    of_head (λ y. StringContent major.Text b text (content_in y.0 y.1)) (text ++ after) (heads.Sized major.Text (is_shortest h.has_head.form (length b)) (length b), b ++ after) y (string_head major.Text b text after h) e
     (subst (StringContent major.Text b text) (sym (front_content b after)) (h, refl))
 layer_content spells (Item-F.Text b) text after y (inr h) e =
     of_head (λ y. StringContent major.Text b text (content_in y.0 y.1)) (text ++ after) (heads.Open major.Text, (h.has_chunks.row ++ 255 ∷ []) ++ after) y (chunked_head major.Text b text after h) e h
 layer_content spells (Item-F.Array xs) text after y (inl h) e =
-    of_head (λ y. content_in y.0 y.1 ≡ None) (text ++ after) (heads.Sized major.Array (length xs) (is_shortest h.has_head.form (length xs)), h.row ++ after) y
+    of_head (λ y. content_in y.0 y.1 ≡ None) (text ++ after) (heads.Sized major.Array (is_shortest h.has_head.form (length xs)) (length xs), h.row ++ after) y
     (ap (λ t. head_at 0 (t ++ after)) h.bytes ∙ ap (head_at 0) (append_assoc h.head h.row after) ∙ head_reads major.Array (length xs) h.head (h.row ++ after) h.has_head 0) e refl
 layer_content spells (Item-F.Array xs) text after y (inr h) e =
     of_head (λ y. content_in y.0 y.1 ≡ None) (text ++ after) (heads.Open major.Array, (h.row ++ 255 ∷ []) ++ after) y
     (ap (λ t. head_at 0 (t ++ after)) h.bytes ∙ open_again 0 major.Array ((h.row ++ 255 ∷ []) ++ after)) e refl
 layer_content spells (Item-F.Map ps) text after y (inl h) e =
-    of_head (λ y. content_in y.0 y.1 ≡ None) (text ++ after) (heads.Sized major.Map (length ps) (is_shortest h.has_head.form (length ps)), h.row ++ after) y
+    of_head (λ y. content_in y.0 y.1 ≡ None) (text ++ after) (heads.Sized major.Map (is_shortest h.has_head.form (length ps)) (length ps), h.row ++ after) y
     (ap (λ t. head_at 0 (t ++ after)) h.bytes ∙ ap (head_at 0) (append_assoc h.head h.row after) ∙ head_reads major.Map (length ps) h.head (h.row ++ after) h.has_head 0) e refl
 layer_content spells (Item-F.Map ps) text after y (inr h) e =
     of_head (λ y. content_in y.0 y.1 ≡ None) (text ++ after) (heads.Open major.Map, (h.row ++ 255 ∷ []) ++ after) y
     (ap (λ t. head_at 0 (t ++ after)) h.bytes ∙ open_again 0 major.Map ((h.row ++ 255 ∷ []) ++ after)) e refl
 layer_content spells (Item-F.Tag t x) text after y h e =
-    of_head (λ y. content_in y.0 y.1 ≡ None) (text ++ after) (heads.Sized major.Tag t (is_shortest h.has_head.form t), h.content ++ after) y
+    of_head (λ y. content_in y.0 y.1 ≡ None) (text ++ after) (heads.Sized major.Tag (is_shortest h.has_head.form t) t, h.content ++ after) y
     (ap (λ u. head_at 0 (u ++ after)) h.bytes ∙ ap (head_at 0) (append_assoc h.head h.content after) ∙ head_reads major.Tag t h.head (h.content ++ after) h.has_head 0) e refl
 layer_content spells (Item-F.Simple n) text after y h e = of_head (λ y. content_in y.0 y.1 ≡ None) (text ++ after) (heads.Simple n, after) y (simple_again 0 n text after h) e refl
 

@@ -254,3 +254,8 @@ some_left [] o p e n = absurd (cc (e, n))
 some_left (s ∷ ss) o p e n =
     let same : record { spot = s; later = ss } ≡ p = cc (e, n) in
     ap (λ (q : Standing). q.spot ∷ q.later) same
+
+-- nothing follows the last
+pub last_first : (c : Cursor) (n : ℕ) → c.left ≡ left.Counted n → n ≡ 0 → IsFirst (cursor_later c) None
+unfolding counted_spots
+last_first c n e zero-is = subst (λ (l : Left). IsFirst (spots_left l (spot_next (cursor_spot c))) None) (sym (e ∙ ap left.Counted zero-is)) tt

@@ -44,17 +44,17 @@ foreign_fails place n bytes x e = go (ltb (length bytes) n) e
 record IsOfChunk (m : Major) (place : ℕ) (h : Head) (bytes : List ℕ) (x : List ℕ × List ℕ) : Type 0 where
   pub n : ℕ
   pub s : Bool
-  pub head_is : h ≡ heads.Sized m n s
+  pub head_is : h ≡ heads.Sized m s n
   pub has_content : content_at place m n bytes ≡ Ok x
 
 byte_chunk : (place : ℕ) (h : Head) (bytes : List ℕ) (x : List ℕ × List ℕ) → chunk_in place major.Bytes h bytes ≡ Ok x → IsOfChunk major.Bytes place h bytes x
-byte_chunk place (heads.Sized major.Bytes n s) bytes x e = record { n = n; s = s; head_is = refl; has_content = e }
-byte_chunk place (heads.Sized major.Text n s) bytes x e = absurd (foreign_fails place n bytes x e)
-byte_chunk place (heads.Sized major.Unsigned n s) bytes x e = absurd cc
-byte_chunk place (heads.Sized major.Negative n s) bytes x e = absurd cc
-byte_chunk place (heads.Sized major.Array n s) bytes x e = absurd cc
-byte_chunk place (heads.Sized major.Map n s) bytes x e = absurd cc
-byte_chunk place (heads.Sized major.Tag n s) bytes x e = absurd cc
+byte_chunk place (heads.Sized major.Bytes s n) bytes x e = record { n = n; s = s; head_is = refl; has_content = e }
+byte_chunk place (heads.Sized major.Text s n) bytes x e = absurd (foreign_fails place n bytes x e)
+byte_chunk place (heads.Sized major.Unsigned s n) bytes x e = absurd cc
+byte_chunk place (heads.Sized major.Negative s n) bytes x e = absurd cc
+byte_chunk place (heads.Sized major.Array s n) bytes x e = absurd cc
+byte_chunk place (heads.Sized major.Map s n) bytes x e = absurd cc
+byte_chunk place (heads.Sized major.Tag s n) bytes x e = absurd cc
 byte_chunk place (heads.Open m) bytes x e = absurd cc
 byte_chunk place (heads.Simple n) bytes x e = absurd cc
 byte_chunk place heads.Float bytes x e = absurd cc
@@ -62,13 +62,13 @@ byte_chunk place heads.Break bytes x e = absurd cc
 byte_chunk place heads.Reserved bytes x e = absurd cc
 
 text_chunk : (place : ℕ) (h : Head) (bytes : List ℕ) (x : List ℕ × List ℕ) → chunk_in place major.Text h bytes ≡ Ok x → IsOfChunk major.Text place h bytes x
-text_chunk place (heads.Sized major.Text n s) bytes x e = record { n = n; s = s; head_is = refl; has_content = e }
-text_chunk place (heads.Sized major.Bytes n s) bytes x e = absurd (foreign_fails place n bytes x e)
-text_chunk place (heads.Sized major.Unsigned n s) bytes x e = absurd cc
-text_chunk place (heads.Sized major.Negative n s) bytes x e = absurd cc
-text_chunk place (heads.Sized major.Array n s) bytes x e = absurd cc
-text_chunk place (heads.Sized major.Map n s) bytes x e = absurd cc
-text_chunk place (heads.Sized major.Tag n s) bytes x e = absurd cc
+text_chunk place (heads.Sized major.Text s n) bytes x e = record { n = n; s = s; head_is = refl; has_content = e }
+text_chunk place (heads.Sized major.Bytes s n) bytes x e = absurd (foreign_fails place n bytes x e)
+text_chunk place (heads.Sized major.Unsigned s n) bytes x e = absurd cc
+text_chunk place (heads.Sized major.Negative s n) bytes x e = absurd cc
+text_chunk place (heads.Sized major.Array s n) bytes x e = absurd cc
+text_chunk place (heads.Sized major.Map s n) bytes x e = absurd cc
+text_chunk place (heads.Sized major.Tag s n) bytes x e = absurd cc
 text_chunk place (heads.Open m) bytes x e = absurd cc
 text_chunk place (heads.Simple n) bytes x e = absurd cc
 text_chunk place heads.Float bytes x e = absurd cc
@@ -90,7 +90,7 @@ of_chunk major.Array kind = absurd kind
 of_chunk major.Map kind = absurd kind
 of_chunk major.Tag kind = absurd kind
 
-chunk_as : (m : Major) → IsStringType m → (place n : ℕ) (s : Bool) (bytes : List ℕ) → chunk_in place m (heads.Sized m n s) bytes ≡ content_at place m n bytes
+chunk_as : (m : Major) → IsStringType m → (place n : ℕ) (s : Bool) (bytes : List ℕ) → chunk_in place m (heads.Sized m s n) bytes ≡ content_at place m n bytes
 chunk_as major.Bytes kind place n s bytes = refl
 chunk_as major.Text kind place n s bytes = refl
 chunk_as major.Unsigned kind place n s bytes = absurd kind
@@ -100,12 +100,12 @@ chunk_as major.Map kind place n s bytes = absurd kind
 chunk_as major.Tag kind place n s bytes = absurd kind
 
 -- a head that was read is a head
-pub is_head : (strict : Bool) (m : Major) (n : ℕ) (s : Bool) (text : List ℕ) → (strict ≡ true → s ≡ true) → SpellsHead (heads.Sized m n s) text → IsHead strict m n text
+pub is_head : (strict : Bool) (m : Major) (n : ℕ) (s : Bool) (text : List ℕ) → (strict ≡ true → s ≡ true) → SpellsHead (heads.Sized m s n) text → IsHead strict m n text
 is_head strict m n s text short h = record { form = h.0; fits = h.1; shortest = λ e. sym h.2 ∙ short e; bytes = h.3 }
 
 -- a head and a content behind it are a string
 pub string_found : (strict : Bool) (m : Major) (n : ℕ) (s : Bool) (bytes mid : List ℕ) (x : List ℕ × List ℕ) → (strict ≡ true → s ≡ true)
-    → HasText (SpellsHead (heads.Sized m n s)) bytes mid → HasContent m n mid x → HasText (IsString strict m x.0) bytes x.1
+    → HasText (SpellsHead (heads.Sized m s n)) bytes mid → HasContent m n mid x → HasText (IsString strict m x.0) bytes x.1
 string_found strict m n s bytes mid x short h c = record {
   text = h.text ++ x.0;
   spelled = record {
@@ -130,7 +130,7 @@ chunk_found total m kind before bytes next fits e =
     let h = head_found place bytes b.0 fits b.1 in
     let o = of_chunk m kind place b.0.0 b.0.1 c.0 c.1 in
     let content = content_found place m o.n b.0.1 c.0 h.taken.rest_fits o.has_content in
-    let head : HasText (SpellsHead (heads.Sized m o.n o.s)) bytes b.0.1 = subst (λ k. HasText (SpellsHead k) bytes b.0.1) o.head_is h in
+    let head : HasText (SpellsHead (heads.Sized m o.s o.n)) bytes b.0.1 = subst (λ k. HasText (SpellsHead k) bytes b.0.1) o.head_is h in
     subst (HasNext (chunk_step total m) concat (IsChunk m) before bytes) (ok_is (concat before ++ c.0.0, c.0.1) next c.2) (record {
       x = c.0.0;
       grown = sym (joined before c.0.0);
@@ -143,7 +143,7 @@ unfolding chunk_step
 chunk_again total m kind before x text rest h =
     let place = total - length (text ++ rest) in
     let apart : text ++ rest ≡ head_in m h.has_head.form (length x) ++ (x ++ rest) = ap (λ t. t ++ rest) (h.bytes ∙ ap (λ t. t ++ x) h.has_head.bytes) ∙ append_assoc (head_in m h.has_head.form (length x)) x rest in
-    let head : head_at place (text ++ rest) ≡ Ok (heads.Sized m (length x) (is_shortest h.has_head.form (length x)), x ++ rest) = ap (head_at place) apart ∙ head_again place m h.has_head.form (length x) (x ++ rest) h.has_head.fits in
+    let head : head_at place (text ++ rest) ≡ Ok (heads.Sized m (is_shortest h.has_head.form (length x)) (length x), x ++ rest) = ap (head_at place) apart ∙ head_again place m h.has_head.form (length x) (x ++ rest) h.has_head.fits in
     rw (head, chunk_as m kind place (length x) (is_shortest h.has_head.form (length x)) (x ++ rest), content_again place m x rest h.is_fine, joined before x) refl
 
 broken : (total : ℕ) (m : Major) → IsStringType m → (front rest : List ℕ) (next : List ℕ × List ℕ) → chunk_step total m front (255 ∷ rest) ≡ Ok next → ⊥
@@ -154,7 +154,7 @@ broken total m kind front rest next e =
     let c = bind_ok (chunk_in place m b.0.0 b.0.1) (λ c. Ok (front ++ c.0, c.1)) next b.2 in
     let is : (heads.Break, rest) ≡ b.0 = ok_is (heads.Break, rest) b.0 (sym (break_is place rest) ∙ b.1) in
     let o = of_chunk m kind place b.0.0 b.0.1 c.0 c.1 in
-    let same : heads.Break ≡ heads.Sized m o.n o.s = ap (λ (p : Head × List ℕ). p.0) is ∙ o.head_is in
+    let same : heads.Break ≡ heads.Sized m o.s o.n = ap (λ (p : Head × List ℕ). p.0) is ∙ o.head_is in
     absurd (cc same)
 
 -- a chunk begins with no break, and takes a byte

@@ -26,7 +26,7 @@ chunk_at total m (suc index) bytes = if breaks bytes then None else then_at (pas
 
 -- the content of a chunk behind a head; a string of definite length is one chunk
 abbrev pub chunk_behind : ℕ → ℕ → Head → List ℕ → Option (List ℕ)
-chunk_behind total index (heads.Sized m n s) rest = if index == 0 then content_in (heads.Sized m n s) rest else None
+chunk_behind total index (heads.Sized m s n) rest = if index == 0 then content_in (heads.Sized m s n) rest else None
 chunk_behind total index (heads.Open major.Bytes) rest = chunk_at total major.Bytes index rest
 chunk_behind total index (heads.Open major.Text) rest = chunk_at total major.Text index rest
 chunk_behind total index _ rest = None

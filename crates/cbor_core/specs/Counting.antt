@@ -19,8 +19,8 @@ count_in _ = None
 
 -- the number that a head gives, or that counting up to a break finds behind it
 abbrev pub CountBehind : ℕ → ℕ → Head → List ℕ → Option ℕ → Type 0
-CountBehind total levels (heads.Sized major.Array n s) rest o = o ≡ Some n
-CountBehind total levels (heads.Sized major.Map n s) rest o = o ≡ Some n
+CountBehind total levels (heads.Sized major.Array s n) rest o = o ≡ Some n
+CountBehind total levels (heads.Sized major.Map s n) rest o = o ≡ Some n
 CountBehind total levels (heads.Open major.Array) rest o = (n : ℕ) (after : List ℕ) → open_at (count_step (pass_at false total levels)) total (length rest) 0 rest ≡ Ok (n, after) → o ≡ Some n
 CountBehind total levels (heads.Open major.Map) rest o = (n : ℕ) (after : List ℕ) → open_at (count_step (pass_pair (pass_at false total levels) tt)) total (length rest) 0 rest ≡ Ok (n, after) → o ≡ Some n
 CountBehind total levels _ rest o = o ≡ None

@@ -1,6 +1,6 @@
 -- The core deterministic encoding (RFC 8949, section 4.2.1): shortest arguments, definite lengths, and map keys
 -- in the bytewise lexicographic order of their own deterministic encodings.
-use Rattle.std.specs.Prelude.{ℕ, List, [], ◌++◌, length, fold, flat_map}
+use Rattle.std.specs.Prelude.{ℕ, List, [], ◌++◌, length, fold, flat_map, Bool, true, false}
 use Rattle.std.specs.List.{concat}
 use Rattle.std.specs.Ordering.{nat_cmp}
 use Rattle.std.specs.Cmp.Lexicographic.{slice_cmp}
@@ -31,3 +31,10 @@ det_step (Item-F.Simple n) = head 7 n
 -- the deterministic spelling of an item
 abbrev pub det : Item → List ℕ
 det = fold-Item (List ℕ) det_step
+
+-- whether no item can stand inside this one
+abbrev pub is_single_item : Item-F Item → Bool
+is_single_item (Item-F.Array xs) = false
+is_single_item (Item-F.Map ps) = false
+is_single_item (Item-F.Tag t x) = false
+is_single_item _ = true

@@ -26,16 +26,16 @@ inner x = inner_in (out-Item x)
 
 -- how the items inside stand behind a head
 abbrev pub entry_of : Head → Entry
-entry_of (heads.Sized major.Array n s) = entry.Counted n
-entry_of (heads.Sized major.Map n s) = entry.Counted (min (n * 2) (2 ^ 64 - 1))
-entry_of (heads.Sized major.Tag n s) = entry.Counted 1
+entry_of (heads.Sized major.Array s n) = entry.Counted n
+entry_of (heads.Sized major.Map s n) = entry.Counted (min (n * 2) (2 ^ 64 - 1))
+entry_of (heads.Sized major.Tag s n) = entry.Counted 1
 entry_of (heads.Open major.Array) = entry.ToBreak
 entry_of (heads.Open major.Map) = entry.ToBreak
 entry_of _ = entry.Leaf
 
 -- the number of a major type, of a head and of an item
 abbrev pub head_major : Head → ℕ
-head_major (heads.Sized m n s) = code m
+head_major (heads.Sized m s n) = code m
 head_major (heads.Open m) = code m
 head_major _ = 7
 
@@ -51,9 +51,9 @@ major_in (Item-F.Simple n) = 7
 
 -- the argument of a number, a tag or a simple value
 abbrev pub head_number : Head → Option ℕ
-head_number (heads.Sized major.Unsigned n s) = Some n
-head_number (heads.Sized major.Negative n s) = Some n
-head_number (heads.Sized major.Tag n s) = Some n
+head_number (heads.Sized major.Unsigned s n) = Some n
+head_number (heads.Sized major.Negative s n) = Some n
+head_number (heads.Sized major.Tag s n) = Some n
 head_number (heads.Simple n) = Some n
 head_number _ = None
 
@@ -66,8 +66,8 @@ number_in _ = None
 
 -- the content behind the head of a string of definite length
 abbrev pub content_in : Head → List ℕ → Option (List ℕ)
-content_in (heads.Sized major.Bytes n s) rest = if nat_lt (length rest) n then None else Some (take n rest)
-content_in (heads.Sized major.Text n s) rest = if nat_lt (length rest) n then None else Some (take n rest)
+content_in (heads.Sized major.Bytes s n) rest = if nat_lt (length rest) n then None else Some (take n rest)
+content_in (heads.Sized major.Text s n) rest = if nat_lt (length rest) n then None else Some (take n rest)
 content_in _ rest = None
 
 -- the content of a string where its length is definite

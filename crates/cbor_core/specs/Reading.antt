@@ -46,11 +46,11 @@ number_at place w bytes =
 
 -- major types 0 to 6
 unfoldable pub argument_at : ℕ → Major → Size → ℕ → List ℕ → Read Head
-argument_at place m size.Inside low rest = Ok (heads.Sized m low true, rest)
-argument_at place m size.One low rest = number_at place w8 rest >>= λ n. Ok (heads.Sized m n.0 (nat_le 24 n.0), n.1)
-argument_at place m size.Two low rest = number_at place w16 rest >>= λ n. Ok (heads.Sized m n.0 (nat_le (2 ^ 8) n.0), n.1)
-argument_at place m size.Four low rest = number_at place w32 rest >>= λ n. Ok (heads.Sized m n.0 (nat_le (2 ^ 16) n.0), n.1)
-argument_at place m size.Eight low rest = number_at place w64 rest >>= λ n. Ok (heads.Sized m n.0 (nat_le (2 ^ 32) n.0), n.1)
+argument_at place m size.Inside low rest = Ok (heads.Sized m true low, rest)
+argument_at place m size.One low rest = number_at place w8 rest >>= λ n. Ok (heads.Sized m (nat_le 24 n.0) n.0, n.1)
+argument_at place m size.Two low rest = number_at place w16 rest >>= λ n. Ok (heads.Sized m (nat_le (2 ^ 8) n.0) n.0, n.1)
+argument_at place m size.Four low rest = number_at place w32 rest >>= λ n. Ok (heads.Sized m (nat_le (2 ^ 16) n.0) n.0, n.1)
+argument_at place m size.Eight low rest = number_at place w64 rest >>= λ n. Ok (heads.Sized m (nat_le (2 ^ 32) n.0) n.0, n.1)
 argument_at place m size.Reserved low rest = Ok (heads.Reserved, rest)
 argument_at place m size.Indefinite low rest = Ok (heads.Open m, rest)
 
@@ -89,10 +89,10 @@ foreign_at place n rest = if nat_lt (length rest) n then Err (fault.Truncated pl
 
 -- a chunk of an indefinite string (section 3.2.3)
 abbrev pub chunk_in : ℕ → Major → Head → List ℕ → Read (List ℕ)
-chunk_in place major.Bytes (heads.Sized major.Bytes n s) rest = content_at place major.Bytes n rest
-chunk_in place major.Bytes (heads.Sized major.Text n s) rest = foreign_at place n rest
-chunk_in place major.Text (heads.Sized major.Text n s) rest = content_at place major.Text n rest
-chunk_in place major.Text (heads.Sized major.Bytes n s) rest = foreign_at place n rest
+chunk_in place major.Bytes (heads.Sized major.Bytes s n) rest = content_at place major.Bytes n rest
+chunk_in place major.Bytes (heads.Sized major.Text s n) rest = foreign_at place n rest
+chunk_in place major.Text (heads.Sized major.Text s n) rest = content_at place major.Text n rest
+chunk_in place major.Text (heads.Sized major.Bytes s n) rest = foreign_at place n rest
 chunk_in place _ _ rest = Err (fault.Malformed place)
 
 -- one more chunk behind those read before
@@ -203,7 +203,7 @@ open_in strict total read place major.Map rest = do
 open_in strict total read place _ rest = Err (fault.Malformed place)
 
 abbrev pub item_in : Bool → ℕ → (List ℕ → Read Item) → ℕ → Head → List ℕ → Read Item
-item_in strict total read place (heads.Sized m n s) rest = sized_in strict total read place m n s rest
+item_in strict total read place (heads.Sized m s n) rest = sized_in strict total read place m n s rest
 item_in strict total read place (heads.Open m) rest = open_in strict total read place m rest
 item_in strict total read place (heads.Simple n) rest = Ok (items.Simple n, rest)
 item_in strict total read place heads.Float rest = Err (fault.Float place)
@@ -224,7 +224,7 @@ buried_open place major.Map = Err (fault.TooDeep place)
 buried_open place _ = Err (fault.Malformed place)
 
 abbrev pub buried_in : ℕ → Head → List ℕ → Read Item
-buried_in place (heads.Sized m n s) rest = buried_sized place m n rest
+buried_in place (heads.Sized m s n) rest = buried_sized place m n rest
 buried_in place (heads.Open m) rest = buried_open place m
 buried_in place (heads.Simple n) rest = Err (fault.TooDeep place)
 buried_in place heads.Float rest = Err (fault.Float place)

@@ -8,12 +8,12 @@ use crate::pass::{pass_item, pass_two};
 use crate::strings::is_break;
 
 /// How many elements or pairs an array or a map has, by its head and what is behind it.
-pub(crate) fn find_count(total: usize, levels: u8, head: Head, rest: &[u8]) -> Option<u64>
+pub(crate) fn find_count(total: usize, levels: usize, head: Head, rest: &[u8]) -> Option<u64>
     ensures { CountBehind total levels head rest.now result }
 {
     match head {
-        Head::Sized(Major::Array, n, _) => Some(n),
-        Head::Sized(Major::Map, n, _) => Some(n),
+        Head::Sized(Major::Array, _, n) => Some(n),
+        Head::Sized(Major::Map, _, n) => Some(n),
         Head::Open(Major::Array) => count_items(total, levels, rest),
         Head::Open(Major::Map) => count_pairs(total, levels, rest),
         _ => None,
@@ -21,7 +21,7 @@ pub(crate) fn find_count(total: usize, levels: u8, head: Head, rest: &[u8]) -> O
 }
 
 /// How many items stand before the break.
-pub(crate) fn count_items(total: usize, levels: u8, bytes: &[u8]) -> Option<u64>
+pub(crate) fn count_items(total: usize, levels: usize, bytes: &[u8]) -> Option<u64>
     ensures { (n : ℕ) (after : List ℕ) → open_at (count_step (pass_at false total levels)) total (length bytes.now) 0 bytes.now ≡ Ok (n, after) → result ≡ Some n }
 {
     let mut rest = bytes;
@@ -38,7 +38,7 @@ pub(crate) fn count_items(total: usize, levels: u8, bytes: &[u8]) -> Option<u64>
 }
 
 /// How many pairs stand before the break.
-pub(crate) fn count_pairs(total: usize, levels: u8, bytes: &[u8]) -> Option<u64>
+pub(crate) fn count_pairs(total: usize, levels: usize, bytes: &[u8]) -> Option<u64>
     ensures { (n : ℕ) (after : List ℕ) → open_at (count_step (pass_pair (pass_at false total levels) tt)) total (length bytes.now) 0 bytes.now ≡ Ok (n, after) → result ≡ Some n }
 {
     let mut rest = bytes;
@@ -46,7 +46,7 @@ pub(crate) fn count_pairs(total: usize, levels: u8, bytes: &[u8]) -> Option<u64>
         if is_break(rest) {
             return Some(turn as u64);
         }
-        match pass_two(total, levels, rest) {
+        match pass_two(None, total, levels, rest) {
             Ok(after) => rest = after,
             Err(_) => return None,
         }

@@ -33,12 +33,13 @@ pub enum Left {
 pub struct Cursor<'a> {
     tail: &'a [u8],
     at: usize,
-    levels: u8,
+    levels: usize,
     left: Left,
 }
 
 impl<'a> Cursor<'a> {
-    /// The item at the front of the bytes, and how many bytes it takes: the answers of `read_wire`.
+    /// The item at the front of the bytes, and how many bytes it takes: the answers of `read_wire`. Memory is taken
+    /// for the keys of maps that have several, which are compared, and for nothing else.
     pub fn open(alloc: Global, bytes: &'a [u8]) -> Result<(Cursor<'a>, usize), CborFault>
         ensures ok { IfOk result (λ p. (x : Item) × (first_item false bytes.now ≡ Ok (x, p.1)) × Stands p.0 bytes.now x (take p.1 bytes.now) [] × (p.0.at ≡ 0)) }
         ensures err { IfErr result (λ e. Fails e (first_item false bytes.now)) }
@@ -146,10 +147,16 @@ impl<'a> Cursor<'a> {
         ensures next { (input : List ℕ) (x : Item) (text : List ℕ) (later : List Item) → Stands self.now input x text later → Next input (self.now.at + length text) later result }
         ensures first { IsPlaced self.now → IsFirst (cursor_later self.now) result }
     {
-        let end = self.end();
         match self.left {
-            Left::Counted(left) => counted(self.moved(end), left, self.levels, end),
-            Left::ToBreak => to_break(self.moved(end), self.levels, end),
+            Left::Counted(0) => None,
+            Left::Counted(left) => {
+                let end = self.end();
+                counted(self.moved(end), left, self.levels, end)
+            }
+            Left::ToBreak => {
+                let end = self.end();
+                to_break(self.moved(end), self.levels, end)
+            }
         }
     }
 
@@ -174,6 +181,7 @@ impl<'a> Cursor<'a> {
     }
 
     /// The place of bytes that stand in the input behind the head.
+    #[inline(always)]
     fn moved(&self, rest: &[u8]) -> usize
         ensures { result ≡ min (self.now.at + (length self.now.tail.now - length rest.now)) usize.MAX }
     {
@@ -200,12 +208,13 @@ pub enum Entry {
     ToBreak,
 }
 
+#[inline(always)]
 fn find_entry(head: Head) -> Entry
     ensures { result ≡ entry_of head }
 {
     match head {
-        Head::Sized(Major::Array, n, _) => Entry::Counted(n),
-        Head::Sized(Major::Map, n, _) => Entry::Counted(n.saturating_mul(2)),
+        Head::Sized(Major::Array, _, n) => Entry::Counted(n),
+        Head::Sized(Major::Map, _, n) => Entry::Counted(n.saturating_mul(2)),
         Head::Sized(Major::Tag, _, _) => Entry::Counted(1),
         Head::Open(Major::Array) => Entry::ToBreak,
         Head::Open(Major::Map) => Entry::ToBreak,
@@ -214,7 +223,8 @@ fn find_entry(head: Head) -> Entry
 }
 
 /// The first of `n` items.
-fn counted<'a>(at: usize, n: u64, levels: u8, tail: &'a [u8]) -> Option<Cursor<'a>>
+#[inline(always)]
+fn counted<'a>(at: usize, n: u64, levels: usize, tail: &'a [u8]) -> Option<Cursor<'a>>
     ensures none { n ≡ 0 → IsNone result }
     ensures some { 0 < n → IsSomeAnd result (λ c. (c.tail.now ≡ tail.now) × (c.at ≡ at) × (c.levels ≡ levels) × (c.left ≡ Left.Counted (n - 1))) }
 {
@@ -230,7 +240,8 @@ fn counted<'a>(at: usize, n: u64, levels: u8, tail: &'a [u8]) -> Option<Cursor<'
 }
 
 /// The first item before a break.
-fn to_break<'a>(at: usize, levels: u8, tail: &'a [u8]) -> Option<Cursor<'a>>
+#[inline(always)]
+fn to_break<'a>(at: usize, levels: usize, tail: &'a [u8]) -> Option<Cursor<'a>>
     ensures none { breaks tail.now ≡ true → IsNone result }
     ensures some { breaks tail.now ≡ false → IsSomeAnd result (λ c. (c.tail.now ≡ tail.now) × (c.at ≡ at) × (c.levels ≡ levels) × (c.left ≡ Left.ToBreak)) }
 {
@@ -246,6 +257,7 @@ fn to_break<'a>(at: usize, levels: u8, tail: &'a [u8]) -> Option<Cursor<'a>>
     }
 }
 
+#[inline(always)]
 fn find_code(head: Head) -> u8
     ensures { result ≡ head_major head }
 {
@@ -256,6 +268,7 @@ fn find_code(head: Head) -> u8
     }
 }
 
+#[inline(always)]
 fn code_of(major: Major) -> u8
     ensures { result ≡ code major }
 {
@@ -270,28 +283,31 @@ fn code_of(major: Major) -> u8
     }
 }
 
+#[inline(always)]
 fn find_number(head: Head) -> Option<u64>
     ensures { result ≡ head_number head }
 {
     match head {
-        Head::Sized(Major::Unsigned, n, _) => Some(n),
-        Head::Sized(Major::Negative, n, _) => Some(n),
-        Head::Sized(Major::Tag, n, _) => Some(n),
+        Head::Sized(Major::Unsigned, _, n) => Some(n),
+        Head::Sized(Major::Negative, _, n) => Some(n),
+        Head::Sized(Major::Tag, _, n) => Some(n),
         Head::Simple(value) => Some(value as u64),
         _ => None,
     }
 }
 
+#[inline(always)]
 pub(crate) fn find_content(head: Head, rest: &[u8]) -> Option<&[u8]>
     ensures { option_copied result ≡ content_in head rest.now }
 {
     match head {
-        Head::Sized(Major::Bytes, n, _) => front(n, rest),
-        Head::Sized(Major::Text, n, _) => front(n, rest),
+        Head::Sized(Major::Bytes, _, n) => front(n, rest),
+        Head::Sized(Major::Text, _, n) => front(n, rest),
         _ => None,
     }
 }
 
+#[inline(always)]
 fn front(n: u64, rest: &[u8]) -> Option<&[u8]>
     ensures { option_copied result ≡ (if nat_lt (length rest.now) n then None else Some (take n rest.now)) }
 {

@@ -27,8 +27,8 @@ pub enum Size {
 /// What a head says.
 #[derive(Clone, Copy, Debug, PartialEq, Eq)]
 pub enum Head {
-    /// A major type and an argument, and whether the argument is in its shortest form.
-    Sized(Major, u64, bool),
+    /// A major type, whether the argument is in its shortest form, and the argument.
+    Sized(Major, bool, u64),
     /// A major type with an indefinite length.
     Open(Major),
     /// A simple value (major type 7).

@@ -1,14 +1,18 @@
-ghost use Rattle.std.specs.Prelude.{◌≡◌, [], length, is_some, false, IfErr, Err};
+ghost use Rattle.std.specs.Prelude.{◌≡◌, [], length, is_some, true, false, IfErr, Err};
 ghost use Rattle.cbor_core.specs.declared.head.Major.TheVariants as major;
-ghost use Rattle.cbor_core.specs.Reading.{Gives, Fails, buried_in, row_at, open_at};
-ghost use Rattle.cbor_core.specs.Passing.{pass_content, pass_chunk, pass_step, pass_pair, pass_pairs, pass_open_pairs, pass_sized, pass_open, pass_in, pass_at};
+ghost use Rattle.cbor_core.specs.Reading.{Gives, Fails, buried_in, row_at, open_at, item_at};
+ghost use Rattle.cbor_core.specs.Passing.{pass_content, pass_chunk, pass_step, pass_pair, spelled_at, fresh_step, forgotten, pass_pairs, pass_open_pairs, pass_sized, pass_open, pass_in, pass_at};
 
+use crate::blob::Blob;
 use crate::fault::CborFault;
 use crate::head::{Head, Major};
-use crate::read::{read_open_pairs, read_pairs, refuse_buried};
+use crate::keys::{admit, as_received};
+use crate::read::{read_item, refuse_buried};
 use crate::read_head::read_head;
 use crate::strings::{is_break, read_byte_chunk, read_bytes, read_text, read_text_chunk};
+use crate::write::write_det;
 use std::alloc::Global;
+use std::collections::BTreeSet;
 
 /// The bytes after the item at the front, with so many levels left for it. With an allocator the answers are those
 /// of reading. Without one the bytes are to spell an item, nothing is allocated, and keys are not compared.
@@ -17,7 +21,7 @@ use std::alloc::Global;
 pub(crate) fn pass_item(
     alloc: Option<Global>,
     total: usize,
-    levels: u8,
+    levels: usize,
     bytes: &[u8],
 ) -> Result<&[u8], CborFault>
     ensures gives { Gives (λ rest. (tt, rest.now)) result (pass_at (is_some alloc) total levels bytes.now) }
@@ -36,7 +40,7 @@ pub(crate) fn pass_item(
 fn pass_inside(
     alloc: Option<Global>,
     total: usize,
-    levels: u8,
+    levels: usize,
     place: usize,
     head: Head,
     rest: &[u8],
@@ -45,7 +49,7 @@ fn pass_inside(
     ensures exact { is_some alloc ≡ false → IfErr result (λ e. (pass_in (is_some alloc) total levels (pass_at (is_some alloc) total levels) place head rest.now) ≡ Err e) }
 {
     match head {
-        Head::Sized(major, n, _) => pass_counted(alloc, total, levels, place, major, n, rest),
+        Head::Sized(major, _, n) => pass_counted(alloc, total, levels, place, major, n, rest),
         Head::Open(major) => pass_to_break(alloc, total, levels, place, major, rest),
         Head::Simple(_) => Ok(rest),
         Head::Float => Err(CborFault::Float(place)),
@@ -58,7 +62,7 @@ fn pass_inside(
 fn pass_counted(
     alloc: Option<Global>,
     total: usize,
-    levels: u8,
+    levels: usize,
     place: usize,
     major: Major,
     n: u64,
@@ -82,7 +86,7 @@ fn pass_counted(
 fn pass_to_break(
     alloc: Option<Global>,
     total: usize,
-    levels: u8,
+    levels: usize,
     place: usize,
     major: Major,
     rest: &[u8],
@@ -104,7 +108,7 @@ fn pass_to_break(
 fn pass_items(
     alloc: Option<Global>,
     total: usize,
-    levels: u8,
+    levels: usize,
     n: u64,
     bytes: &[u8],
 ) -> Result<&[u8], CborFault>
@@ -126,7 +130,7 @@ fn pass_items(
 fn pass_open_items(
     alloc: Option<Global>,
     total: usize,
-    levels: u8,
+    levels: usize,
     bytes: &[u8],
 ) -> Result<&[u8], CborFault>
     ensures gives { Gives (λ rest. (tt, rest.now)) result (open_at (pass_step (pass_at (is_some alloc) total levels)) total (length bytes.now) tt bytes.now) }
@@ -146,20 +150,27 @@ fn pass_open_items(
 }
 
 #[cycle(passing)]
+#[tactic(auto, using(crate::proofs::Passes::none_passes, crate::proofs::Passes::one_passes))]
 fn pass_map(
     alloc: Option<Global>,
     total: usize,
-    levels: u8,
+    levels: usize,
     n: u64,
     bytes: &[u8],
 ) -> Result<&[u8], CborFault>
     ensures gives { Gives (λ rest. (tt, rest.now)) result (pass_pairs (is_some alloc) total levels (pass_at (is_some alloc) total levels) n bytes.now) }
     ensures exact { is_some alloc ≡ false → IfErr result (λ e. (pass_pairs (is_some alloc) total levels (pass_at (is_some alloc) total levels) n bytes.now) ≡ Err e) }
 {
+    if n == 0 {
+        return Ok(bytes);
+    }
     match alloc {
         Some(memory) => {
-            let (_pairs, rest) = read_pairs(memory, false, total, levels, n, bytes)?;
-            Ok(rest)
+            if n == 1 {
+                pass_two(alloc, total, levels, bytes)
+            } else {
+                pass_fresh_pairs(memory, total, levels, n, bytes)
+            }
         }
         None => pass_keyed(total, levels, n, bytes),
     }
@@ -169,30 +180,110 @@ fn pass_map(
 fn pass_open_map(
     alloc: Option<Global>,
     total: usize,
-    levels: u8,
+    levels: usize,
     bytes: &[u8],
 ) -> Result<&[u8], CborFault>
     ensures gives { Gives (λ rest. (tt, rest.now)) result (pass_open_pairs (is_some alloc) total levels (pass_at (is_some alloc) total levels) bytes.now) }
     ensures exact { is_some alloc ≡ false → IfErr result (λ e. (pass_open_pairs (is_some alloc) total levels (pass_at (is_some alloc) total levels) bytes.now) ≡ Err e) }
 {
     match alloc {
-        Some(memory) => {
-            let (_pairs, rest) = read_open_pairs(memory, false, total, levels, bytes)?;
-            Ok(rest)
-        }
+        Some(memory) => pass_fresh_to_break(memory, total, levels, bytes),
         None => pass_open_keyed(total, levels, bytes),
+    }
+}
+
+/// Pairs whose keys are compared.
+#[cycle(passing)]
+#[tactic(auto, using(crate::proofs::Loops::row_more, crate::proofs::Loops::row_fails, crate::proofs::Loops::row_ends, crate::proofs::Passes::fails_forgotten))]
+fn pass_fresh_pairs(
+    alloc: Global,
+    total: usize,
+    levels: usize,
+    n: u64,
+    bytes: &[u8],
+) -> Result<&[u8], CborFault>
+    ensures { Gives (λ rest. (tt, rest.now)) result (forgotten (row_at (fresh_step total (item_at false total levels) (pass_at true total levels)) n [] bytes.now)) }
+{
+    let mut keys = BTreeSet::new(alloc);
+    let mut rest = bytes;
+    for _turn in 0..n {
+        match pass_fresh(alloc, total, levels, &mut keys, rest) {
+            Ok(after) => rest = after,
+            Err(fault) => return Err(fault),
+        }
+    }
+    Ok(rest)
+}
+
+/// Pairs up to a break, whose keys are compared.
+#[cycle(passing)]
+#[tactic(auto, using(crate::proofs::Loops::open_more, crate::proofs::Loops::open_fails, crate::proofs::Loops::open_ends, crate::proofs::Loops::open_over, crate::proofs::Passes::fails_forgotten))]
+fn pass_fresh_to_break(
+    alloc: Global,
+    total: usize,
+    levels: usize,
+    bytes: &[u8],
+) -> Result<&[u8], CborFault>
+    ensures { Gives (λ rest. (tt, rest.now)) result (forgotten (open_at (fresh_step total (item_at false total levels) (pass_at true total levels)) total (length bytes.now) [] bytes.now)) }
+{
+    let mut keys = BTreeSet::new(alloc);
+    let mut rest = bytes;
+    for _turn in 0..bytes.len() {
+        if is_break(rest) {
+            return Ok(rest.split_at(1).1);
+        }
+        match pass_fresh(alloc, total, levels, &mut keys, rest) {
+            Ok(after) => rest = after,
+            Err(fault) => return Err(fault),
+        }
+    }
+    Err(CborFault::Truncated(total))
+}
+
+/// A key, whose spelling joins those of the keys before it, and its value.
+#[cycle(passing)]
+#[tactic(auto, unfolding(crate::specs::Passing::fresh_step))]
+fn pass_fresh<'a>(
+    alloc: Global,
+    total: usize,
+    levels: usize,
+    keys: &mut BTreeSet<Blob>,
+    bytes: &'a [u8],
+) -> Result<&'a [u8], CborFault>
+    ensures { Gives (λ rest. (keys.new.keys, rest.now)) result (fresh_step total (item_at false total levels) (pass_at true total levels) keys.old.keys bytes.now) }
+{
+    let place = total.saturating_sub(bytes.len());
+    let (key, value) = read_spelling(alloc, total, levels, bytes)?;
+    admit(false, place, keys, key)?;
+    pass_item(Some(alloc), total, levels, value)
+}
+
+/// The deterministic spelling of the item at the front.
+fn read_spelling(
+    alloc: Global,
+    total: usize,
+    levels: usize,
+    bytes: &[u8],
+) -> Result<(Blob, &[u8]), CborFault>
+    ensures { Gives (λ x. (x.0, x.1.now)) result (spelled_at (item_at false total levels) bytes.now) }
+{
+    let place = total.saturating_sub(bytes.len());
+    let (item, rest) = read_item(alloc, false, total, levels, bytes)?;
+    match as_received(place, bytes, rest) {
+        Some(text) => Ok((Blob::from_slice(alloc, text)?, rest)),
+        None => Ok((write_det(alloc, &item)?, rest)),
     }
 }
 
 #[cycle(passing)]
 #[tactic(auto, using(crate::proofs::Loops::row_more, crate::proofs::Loops::row_fails, crate::proofs::Loops::row_ends, crate::proofs::Loops::row_refuses))]
-fn pass_keyed(total: usize, levels: u8, n: u64, bytes: &[u8]) -> Result<&[u8], CborFault>
+fn pass_keyed(total: usize, levels: usize, n: u64, bytes: &[u8]) -> Result<&[u8], CborFault>
     ensures gives { Gives (λ rest. (tt, rest.now)) result (row_at (pass_pair (pass_at false total levels)) n tt bytes.now) }
     ensures exact { IfErr result (λ e. (row_at (pass_pair (pass_at false total levels)) n tt bytes.now) ≡ Err e) }
 {
     let mut rest = bytes;
     for _turn in 0..n {
-        match pass_two(total, levels, rest) {
+        match pass_two(None, total, levels, rest) {
             Ok(after) => rest = after,
             Err(fault) => return Err(fault),
         }
@@ -202,7 +293,7 @@ fn pass_keyed(total: usize, levels: u8, n: u64, bytes: &[u8]) -> Result<&[u8], C
 
 #[cycle(passing)]
 #[tactic(auto, using(crate::proofs::Loops::open_more, crate::proofs::Loops::open_fails, crate::proofs::Loops::open_ends, crate::proofs::Loops::open_over, crate::proofs::Loops::open_refuses))]
-fn pass_open_keyed(total: usize, levels: u8, bytes: &[u8]) -> Result<&[u8], CborFault>
+fn pass_open_keyed(total: usize, levels: usize, bytes: &[u8]) -> Result<&[u8], CborFault>
     ensures gives { Gives (λ rest. (tt, rest.now)) result (open_at (pass_pair (pass_at false total levels)) total (length bytes.now) tt bytes.now) }
     ensures exact { IfErr result (λ e. (open_at (pass_pair (pass_at false total levels)) total (length bytes.now) tt bytes.now) ≡ Err e) }
 {
@@ -211,7 +302,7 @@ fn pass_open_keyed(total: usize, levels: u8, bytes: &[u8]) -> Result<&[u8], Cbor
         if is_break(rest) {
             return Ok(rest.split_at(1).1);
         }
-        match pass_two(total, levels, rest) {
+        match pass_two(None, total, levels, rest) {
             Ok(after) => rest = after,
             Err(fault) => return Err(fault),
         }
@@ -221,14 +312,20 @@ fn pass_open_keyed(total: usize, levels: u8, bytes: &[u8]) -> Result<&[u8], Cbor
 
 /// A key and its value.
 #[cycle(passing)]
-pub(crate) fn pass_two(total: usize, levels: u8, bytes: &[u8]) -> Result<&[u8], CborFault>
-    ensures gives { Gives (λ rest. (tt, rest.now)) result (pass_pair (pass_at false total levels) tt bytes.now) }
-    ensures exact { IfErr result (λ e. (pass_pair (pass_at false total levels) tt bytes.now) ≡ Err e) }
+pub(crate) fn pass_two(
+    alloc: Option<Global>,
+    total: usize,
+    levels: usize,
+    bytes: &[u8],
+) -> Result<&[u8], CborFault>
+    ensures gives { Gives (λ rest. (tt, rest.now)) result (pass_pair (pass_at (is_some alloc) total levels) tt bytes.now) }
+    ensures exact { is_some alloc ≡ false → IfErr result (λ e. (pass_pair (pass_at (is_some alloc) total levels) tt bytes.now) ≡ Err e) }
 {
-    let value = pass_item(None, total, levels, bytes)?;
-    pass_item(None, total, levels, value)
+    let value = pass_item(alloc, total, levels, bytes)?;
+    pass_item(alloc, total, levels, value)
 }
 
+#[inline(always)]
 fn pass_bytes(alloc: Option<Global>, place: usize, n: u64, rest: &[u8]) -> Result<&[u8], CborFault>
     ensures gives { Gives (λ rest. (tt, rest.now)) result (pass_content (is_some alloc) place major.Bytes n rest.now) }
     ensures exact { IfErr result (λ e. (pass_content (is_some alloc) place major.Bytes n rest.now) ≡ Err e) }
@@ -255,6 +352,7 @@ fn pass_text(alloc: Option<Global>, place: usize, n: u64, rest: &[u8]) -> Result
     }
 }
 
+#[inline(always)]
 fn pass_some(place: usize, n: u64, rest: &[u8]) -> Result<&[u8], CborFault>
     ensures gives { Gives (λ rest. (tt, rest.now)) result (pass_content false place major.Bytes n rest.now) }
     ensures exact { IfErr result (λ e. (pass_content false place major.Bytes n rest.now) ≡ Err e) }

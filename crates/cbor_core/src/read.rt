@@ -2,7 +2,7 @@ ghost use Rattle.std.specs.Prelude.{ℕ, ◌≤◌, take, IfOk, ◌≡◌, [], l
 ghost use Rattle.cbor_core.specs.declared.head.Major.TheVariants as major;
 ghost use Rattle.cbor_core.specs.Reading.{Gives, Fails, content_at, row_at, open_at, item_step, pair_step, key_spellings, admitted, demanded, sized_in, open_in, item_in, buried_sized, buried_open, buried_in, item_at, first_item};
 ghost use Rattle.cbor_core.specs.declared.item.Item.{Item};
-ghost use Rattle.cbor_core.specs.Keys.{key_set};
+ghost use Rattle.cbor_core.specs.Keys.{Keeps};
 ghost use Rattle.cbor_core.specs.Deterministic.{det};
 ghost use Rattle.cbor_core.specs.Norm.{norm, IsFit};
 ghost use Rattle.cbor_core.specs.Spelling.{Spells};
@@ -11,14 +11,12 @@ use crate::blob::Blob;
 use crate::fault::CborFault;
 use crate::head::{Head, Major};
 use crate::item::{Item, Items, Pairs};
-use crate::keys::admit;
+use crate::keys::{Keys, as_received};
 use crate::read_head::read_head;
 use crate::strings::{is_break, read_byte_chunks, read_bytes, read_text, read_text_chunks};
 use crate::text::Text;
-use crate::write::write_det;
 use sqlite_items::Boxed;
 use std::alloc::Global;
-use std::collections::BTreeSet;
 
 /// The item at the front of the bytes, and how many bytes it takes. Bytes may follow. The first fault in reading
 /// order is answered, and never `NotDeterministic`.
@@ -66,7 +64,7 @@ pub(crate) fn read_item(
     alloc: Global,
     strict: bool,
     total: usize,
-    levels: u8,
+    levels: usize,
     bytes: &[u8],
 ) -> Result<(Item, &[u8]), CborFault>
     ensures { Gives (λ x. (x.0, x.1.now)) result (item_at strict total levels bytes.now) }
@@ -85,7 +83,7 @@ fn read_content(
     alloc: Global,
     strict: bool,
     total: usize,
-    levels: u8,
+    levels: usize,
     place: usize,
     head: Head,
     rest: &[u8],
@@ -93,7 +91,7 @@ fn read_content(
     ensures { Gives (λ x. (x.0, x.1.now)) result (item_in strict total (item_at strict total levels) place head rest.now) }
 {
     match head {
-        Head::Sized(major, n, shortest) => {
+        Head::Sized(major, shortest, n) => {
             read_sized(
                 alloc, strict, total, levels, place, major, n, shortest, rest,
             )
@@ -111,7 +109,7 @@ fn read_sized(
     alloc: Global,
     strict: bool,
     total: usize,
-    levels: u8,
+    levels: usize,
     place: usize,
     major: Major,
     n: u64,
@@ -162,7 +160,7 @@ fn read_open(
     alloc: Global,
     strict: bool,
     total: usize,
-    levels: u8,
+    levels: usize,
     place: usize,
     major: Major,
     rest: &[u8],
@@ -194,6 +192,7 @@ fn read_open(
     }
 }
 
+#[inline(always)]
 fn demand(strict: bool, deterministic: bool, place: usize) -> Result<(), CborFault>
     ensures { Gives (λ x. x) result (demanded strict deterministic place) }
 {
@@ -210,11 +209,11 @@ pub(crate) fn refuse_buried(place: usize, head: Head, rest: &[u8]) -> CborFault
     ensures exact { buried_in place head rest.now ≡ Err result }
 {
     match head {
-        Head::Sized(Major::Bytes, n, _) => match read_bytes(place, n, rest) {
+        Head::Sized(Major::Bytes, _, n) => match read_bytes(place, n, rest) {
             Ok(_) => CborFault::TooDeep(place),
             Err(fault) => fault,
         },
-        Head::Sized(Major::Text, n, _) => match read_text(place, n, rest) {
+        Head::Sized(Major::Text, _, n) => match read_text(place, n, rest) {
             Ok(_) => CborFault::TooDeep(place),
             Err(fault) => fault,
         },
@@ -237,7 +236,7 @@ fn read_items(
     alloc: Global,
     strict: bool,
     total: usize,
-    levels: u8,
+    levels: usize,
     n: u64,
     bytes: &[u8],
 ) -> Result<(Items, &[u8]), CborFault>
@@ -260,7 +259,7 @@ fn read_open_items(
     alloc: Global,
     strict: bool,
     total: usize,
-    levels: u8,
+    levels: usize,
     bytes: &[u8],
 ) -> Result<(Items, &[u8]), CborFault>
     ensures { Gives (λ x. (x.0, x.1.now)) result (open_at (item_step (item_at strict total levels)) total (length bytes.now) [] bytes.now) }
@@ -285,7 +284,7 @@ fn next_item<'a>(
     alloc: Global,
     strict: bool,
     total: usize,
-    levels: u8,
+    levels: usize,
     items: &mut Items,
     bytes: &'a [u8],
 ) -> Result<&'a [u8], CborFault>
@@ -298,18 +297,18 @@ fn next_item<'a>(
 
 #[cycle(reading)]
 #[tactic(auto, using(crate::proofs::Loops::row_more, crate::proofs::Loops::row_fails, crate::proofs::Loops::row_ends))]
-pub(crate) fn read_pairs(
+fn read_pairs(
     alloc: Global,
     strict: bool,
     total: usize,
-    levels: u8,
+    levels: usize,
     n: u64,
     bytes: &[u8],
 ) -> Result<(Pairs, &[u8]), CborFault>
     ensures { Gives (λ x. (x.0, x.1.now)) result (row_at (pair_step strict total (item_at strict total levels)) n [] bytes.now) }
 {
     let mut pairs = Pairs::new(alloc);
-    let mut keys = BTreeSet::new(alloc);
+    let mut keys = Keys::new(alloc);
     let mut rest = bytes;
     for _turn in 0..n {
         match next_pair(alloc, strict, total, levels, &mut pairs, &mut keys, rest) {
@@ -322,17 +321,17 @@ pub(crate) fn read_pairs(
 
 #[cycle(reading)]
 #[tactic(auto, using(crate::proofs::Loops::open_more, crate::proofs::Loops::open_fails, crate::proofs::Loops::open_ends, crate::proofs::Loops::open_over))]
-pub(crate) fn read_open_pairs(
+fn read_open_pairs(
     alloc: Global,
     strict: bool,
     total: usize,
-    levels: u8,
+    levels: usize,
     bytes: &[u8],
 ) -> Result<(Pairs, &[u8]), CborFault>
     ensures { Gives (λ x. (x.0, x.1.now)) result (open_at (pair_step strict total (item_at strict total levels)) total (length bytes.now) [] bytes.now) }
 {
     let mut pairs = Pairs::new(alloc);
-    let mut keys = BTreeSet::new(alloc);
+    let mut keys = Keys::new(alloc);
     let mut rest = bytes;
     for _turn in 0..bytes.len() {
         if is_break(rest) {
@@ -347,20 +346,21 @@ pub(crate) fn read_open_pairs(
 }
 
 #[cycle(reading)]
+#[tactic(auto, unfolding(crate::specs::Reading::row_at))]
 fn read_map(
     alloc: Global,
     strict: bool,
     total: usize,
-    levels: u8,
+    levels: usize,
     n: u64,
     bytes: &[u8],
 ) -> Result<(Pairs, &[u8]), CborFault>
     ensures { Gives (λ x. (x.0, x.1.now)) result (row_at (pair_step strict total (item_at strict total levels)) n [] bytes.now) }
 {
-    if n == 1 {
-        read_one_pair(alloc, strict, total, levels, bytes)
-    } else {
-        read_pairs(alloc, strict, total, levels, n, bytes)
+    match n {
+        0 => Ok((Pairs::new(alloc), bytes)),
+        1 => read_one_pair(alloc, strict, total, levels, bytes),
+        _ => read_pairs(alloc, strict, total, levels, n, bytes),
     }
 }
 
@@ -371,7 +371,7 @@ fn read_one_pair(
     alloc: Global,
     strict: bool,
     total: usize,
-    levels: u8,
+    levels: usize,
     bytes: &[u8],
 ) -> Result<(Pairs, &[u8]), CborFault>
     ensures { Gives (λ x. (x.0, x.1.now)) result (row_at (pair_step strict total (item_at strict total levels)) 1 [] bytes.now) }
@@ -389,25 +389,26 @@ fn read_one_pair(
     }
 }
 
-/// Reads a key and its value and puts them behind those read before, whose keys' spellings are `keys`.
+/// Reads a key and its value and puts them behind those read before. `keys` is what is kept of the keys before.
 #[cycle(reading)]
-#[tactic(auto, using(crate::proofs::KeySets::admitted_by_set), unfolding(crate::specs::Reading::pair_step))]
+#[tactic(auto, unfolding(crate::specs::Reading::pair_step))]
 fn next_pair<'a>(
     alloc: Global,
     strict: bool,
     total: usize,
-    levels: u8,
+    levels: usize,
     pairs: &mut Pairs,
-    keys: &mut BTreeSet<Blob>,
+    keys: &mut Keys<'a>,
     bytes: &'a [u8],
 ) -> Result<&'a [u8], CborFault>
-    requires { keys.old.keys ≡ key_set (key_spellings pairs.old) }
+    requires { Keeps keys.old (key_spellings pairs.old) }
     ensures gives { Gives (λ rest. (pairs.new, rest.now)) result (pair_step strict total (item_at strict total levels) pairs.old bytes.now) }
-    ensures keys { OnOk result (keys.new.keys ≡ key_set (key_spellings pairs.new)) }
+    ensures keys { OnOk result (Keeps keys.new (key_spellings pairs.new)) }
 {
     let place = total.saturating_sub(bytes.len());
     let (key, rest) = read_item(alloc, strict, total, levels, bytes)?;
-    admit(strict, place, keys, write_det(alloc, &key)?)?;
+    let received = as_received(place, bytes, rest);
+    keys.admit(alloc, strict, place, pairs.as_slice(), &key, received)?;
     let (value, after) = read_item(alloc, strict, total, levels, rest)?;
     pairs.push((key, value))?;
     Ok(after)

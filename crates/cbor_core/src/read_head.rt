@@ -8,6 +8,7 @@ use crate::head::{Head, Major, Size};
 
 /// The head at the front of the bytes.
 #[tactic(auto, unfolding(crate::specs::Reading::head_at))]
+#[inline(always)]
 pub(crate) fn read_head(place: usize, bytes: &[u8]) -> Result<(Head, &[u8]), CborFault>
     ensures gives { Gives (λ x. (x.0, x.1.now)) result (head_at place bytes.now) }
     ensures exact { IfErr result (λ e. (head_at place bytes.now) ≡ Err e) }
@@ -27,6 +28,7 @@ pub(crate) fn read_head(place: usize, bytes: &[u8]) -> Result<(Head, &[u8]), Cbo
 }
 
 #[tactic(auto, unfolding(crate::specs::Reading::argument_at))]
+#[inline(always)]
 fn read_argument(
     place: usize,
     major: Major,
@@ -38,22 +40,22 @@ fn read_argument(
     ensures exact { IfErr result (λ e. (argument_at place major size low rest.now) ≡ Err e) }
 {
     match size {
-        Size::Inside => Ok((Head::Sized(major, low as u64, true), rest)),
+        Size::Inside => Ok((Head::Sized(major, true, low as u64), rest)),
         Size::One => {
             let (n, after) = read_u8(place, rest)?;
-            Ok((Head::Sized(major, n as u64, n >= 24), after))
+            Ok((Head::Sized(major, n >= 24, n as u64), after))
         }
         Size::Two => {
             let (n, after) = read_u16(place, rest)?;
-            Ok((Head::Sized(major, n as u64, n >= 1 << 8), after))
+            Ok((Head::Sized(major, n >= 1 << 8, n as u64), after))
         }
         Size::Four => {
             let (n, after) = read_u32(place, rest)?;
-            Ok((Head::Sized(major, n as u64, n >= 1 << 16), after))
+            Ok((Head::Sized(major, n >= 1 << 16, n as u64), after))
         }
         Size::Eight => {
             let (n, after) = read_u64(place, rest)?;
-            Ok((Head::Sized(major, n, n >= 1 << 32), after))
+            Ok((Head::Sized(major, n >= 1 << 32, n), after))
         }
         Size::Reserved => Ok((Head::Reserved, rest)),
         Size::Indefinite => Ok((Head::Open(major), rest)),
@@ -61,6 +63,7 @@ fn read_argument(
 }
 
 #[tactic(auto, unfolding(crate::specs::Reading::other_at))]
+#[inline(always)]
 fn read_other(place: usize, size: Size, low: u8, rest: &[u8]) -> Result<(Head, &[u8]), CborFault>
     ensures gives { Gives (λ x. (x.0, x.1.now)) result (other_at place size low rest.now) }
     ensures exact { IfErr result (λ e. (other_at place size low rest.now) ≡ Err e) }
@@ -96,6 +99,7 @@ fn read_other(place: usize, size: Size, low: u8, rest: &[u8]) -> Result<(Head, &
 }
 
 #[tactic(auto, unfolding(crate::specs::Head::major_of))]
+#[inline(always)]
 fn find_major(high: u8) -> Major
     requires { high < 7 }
     ensures { result ≡ major_of high }
@@ -112,6 +116,7 @@ fn find_major(high: u8) -> Major
 }
 
 #[tactic(auto, unfolding(crate::specs::Head::size_of))]
+#[inline(always)]
 fn find_size(low: u8) -> Size
     ensures { result ≡ size_of low }
 {
@@ -126,6 +131,7 @@ fn find_size(low: u8) -> Size
     }
 }
 
+#[inline(always)]
 fn read_u8(place: usize, bytes: &[u8]) -> Result<(u8, &[u8]), CborFault>
     ensures gives { Gives (λ x. (x.0, x.1.now)) result (number_at place w8 bytes.now) }
     ensures exact { IfErr result (λ e. (number_at place w8 bytes.now) ≡ Err e) }
@@ -137,6 +143,7 @@ fn read_u8(place: usize, bytes: &[u8]) -> Result<(u8, &[u8]), CborFault>
     Ok((u8::from_be_bytes([front[0]]), rest))
 }
 
+#[inline(always)]
 fn read_u16(place: usize, bytes: &[u8]) -> Result<(u16, &[u8]), CborFault>
     ensures gives { Gives (λ x. (x.0, x.1.now)) result (number_at place w16 bytes.now) }
     ensures exact { IfErr result (λ e. (number_at place w16 bytes.now) ≡ Err e) }
@@ -148,6 +155,7 @@ fn read_u16(place: usize, bytes: &[u8]) -> Result<(u16, &[u8]), CborFault>
     Ok((u16::from_be_bytes([front[0], front[1]]), rest))
 }
 
+#[inline(always)]
 fn read_u32(place: usize, bytes: &[u8]) -> Result<(u32, &[u8]), CborFault>
     ensures gives { Gives (λ x. (x.0, x.1.now)) result (number_at place w32 bytes.now) }
     ensures exact { IfErr result (λ e. (number_at place w32 bytes.now) ≡ Err e) }
@@ -162,6 +170,7 @@ fn read_u32(place: usize, bytes: &[u8]) -> Result<(u32, &[u8]), CborFault>
     ))
 }
 
+#[inline(always)]
 fn read_u64(place: usize, bytes: &[u8]) -> Result<(u64, &[u8]), CborFault>
     ensures gives { Gives (λ x. (x.0, x.1.now)) result (number_at place w64 bytes.now) }
     ensures exact { IfErr result (λ e. (number_at place w64 bytes.now) ≡ Err e) }

@@ -11,6 +11,7 @@ use std::alloc::Global;
 use std::str;
 
 /// The content of a byte string of `n` bytes.
+#[inline(always)]
 pub(crate) fn read_bytes(place: usize, n: u64, rest: &[u8]) -> Result<(&[u8], &[u8]), CborFault>
     ensures gives { Gives (λ x. (x.0.now, x.1.now)) result (content_at place major.Bytes n rest.now) }
     ensures exact { IfErr result (λ e. (content_at place major.Bytes n rest.now) ≡ Err e) }
@@ -39,6 +40,7 @@ pub(crate) fn read_text(place: usize, n: u64, rest: &[u8]) -> Result<(&str, &[u8
 }
 
 /// Whether the next head is the break.
+#[inline(always)]
 pub(crate) fn is_break(bytes: &[u8]) -> bool
     ensures { result ≡ breaks bytes.now }
 {
@@ -67,8 +69,8 @@ pub(crate) fn read_byte_chunk(
     ensures exact { IfErr result (λ e. (chunk_in place major.Bytes head rest.now) ≡ Err e) }
 {
     match head {
-        Head::Sized(Major::Bytes, n, _) => read_bytes(place, n, rest),
-        Head::Sized(Major::Text, n, _) => Err(refuse_foreign(place, n, rest)),
+        Head::Sized(Major::Bytes, _, n) => read_bytes(place, n, rest),
+        Head::Sized(Major::Text, _, n) => Err(refuse_foreign(place, n, rest)),
         _ => Err(CborFault::Malformed(place)),
     }
 }
@@ -82,8 +84,8 @@ pub(crate) fn read_text_chunk(
     ensures exact { IfErr result (λ e. (chunk_in place major.Text head rest.now) ≡ Err e) }
 {
     match head {
-        Head::Sized(Major::Text, n, _) => read_text(place, n, rest),
-        Head::Sized(Major::Bytes, n, _) => Err(refuse_foreign(place, n, rest)),
+        Head::Sized(Major::Text, _, n) => read_text(place, n, rest),
+        Head::Sized(Major::Bytes, _, n) => Err(refuse_foreign(place, n, rest)),
         _ => Err(CborFault::Malformed(place)),
     }
 }

@@ -1,11 +1,15 @@
-ghost use Rattle.std.specs.Prelude.{◌≡◌, ◌++◌, ◌<◌, ◌∷◌, ◌^◌, [], IfOk, OnOk, length, map, flat_map};
+ghost use Rattle.std.specs.Prelude.{◌≡◌, ◌++◌, ◌<◌, ◌≤◌, ◌∷◌, ◌^◌, [], true, IfOk, OnOk, length, map, take, drop, flat_map};
 ghost use Rattle.std.specs.List.{concat};
+ghost use Rattle.std.specs.Ordering.{nat_cmp, is_lt};
+ghost use Rattle.std.specs.Cmp.Lexicographic.{slice_cmp};
+ghost use Rattle.cbor_core.specs.declared.item.Item.{out-Item};
 ghost use Rattle.cbor_core.specs.Head.{head};
-ghost use Rattle.cbor_core.specs.Deterministic.{det, det_pairs, in_key_order};
+ghost use Rattle.cbor_core.specs.Deterministic.{det, det_pairs, in_key_order, is_single_item};
 ghost use Rattle.cbor_core.specs.Norm.{IsFit, IsReadBack};
 
 use crate::blob::Blob;
 use crate::item::Item;
+use crate::keys::is_below;
 use crate::no_memory::NoMemory;
 use std::alloc::Global;
 use std::collections::BTreeMap;
@@ -61,8 +65,80 @@ fn write_map(alloc: Global, out: &mut Vec<u8>, pairs: &[(Item, Item)]) -> Result
             write_item(alloc, out, key)?;
             write_item(alloc, out, value)
         }
-        _ => write_sorted(alloc, out, pairs),
+        _ => write_several(alloc, out, pairs),
     }
+}
+
+/// Pairs whose keys stand in their order are written as they stand, and others are sorted.
+#[cycle(write)]
+fn write_several(alloc: Global, out: &mut Vec<u8>, pairs: &[(Item, Item)]) -> Result<(), NoMemory>
+    ensures { OnOk result (out.new.items ≡ out.old.items ++ det_pairs (in_key_order (map (λ p. (det p.0, det p.1)) pairs.now))) }
+{
+    let start = out.len();
+    let rise = write_keys(alloc, out, pairs)?;
+    out.truncate(start);
+    if rise {
+        write_pairs(alloc, out, pairs)
+    } else {
+        write_sorted(alloc, out, pairs)
+    }
+}
+
+/// Writes the keys, as long as nothing stands inside them and each is above the one before it. True where all are so.
+#[cycle(write)]
+#[tactic(auto, using(crate::proofs::Rising::front_more, crate::proofs::Rising::top_written, crate::proofs::Rising::order_written))]
+fn write_keys(alloc: Global, out: &mut Vec<u8>, pairs: &[(Item, Item)]) -> Result<bool, NoMemory>
+    ensures front { OnOk result (take (length out.old.items) out.new.items ≡ out.old.items) }
+    ensures rise { IfOk result (λ rise. rise ≡ true → in_key_order (map (λ p. (det p.0, det p.1)) pairs.now) ≡ map (λ p. (det p.0, det p.1)) pairs.now) }
+{
+    let mut mark = out.len();
+    for (key, _value) in pairs {
+        if !is_single(key) {
+            return Ok(false);
+        }
+        let end = out.len();
+        if !write_above(alloc, out, mark, key)? {
+            return Ok(false);
+        }
+        mark = end;
+    }
+    Ok(true)
+}
+
+/// Writes a key, and says whether it is above the one that stands at the end, from `mark`.
+#[cycle(write)]
+fn write_above(alloc: Global, out: &mut Vec<u8>, mark: usize, key: &Item) -> Result<bool, NoMemory>
+    requires { mark ≤ length out.old.items }
+    ensures text { OnOk result (out.new.items ≡ out.old.items ++ det key.now) }
+    ensures above { IfOk result (λ above. above ≡ is_lt (slice_cmp nat_cmp (drop mark out.old.items) (det key.now))) }
+{
+    let end = out.len();
+    write_item(alloc, out, key)?;
+    let (front, text) = out.as_slice().split_at(end);
+    Ok(is_below(front.split_at(mark).1, text))
+}
+
+fn is_single(item: &Item) -> bool
+    ensures { result ≡ is_single_item (out-Item item.now) }
+{
+    match item {
+        Item::Array(_) => false,
+        Item::Map(_) => false,
+        Item::Tag(_, _) => false,
+        _ => true,
+    }
+}
+
+#[cycle(write)]
+fn write_pairs(alloc: Global, out: &mut Vec<u8>, pairs: &[(Item, Item)]) -> Result<(), NoMemory>
+    ensures { OnOk result (out.new.items ≡ out.old.items ++ det_pairs (map (λ p. (det p.0, det p.1)) pairs.now)) }
+{
+    write_head(out, 5, pairs.len() as u64)?;
+    for (key, value) in pairs {
+        write_item(alloc, out, key)?;
+        write_item(alloc, out, value)?;
+    }
+    Ok(())
 }
 
 #[cycle(write)]

@@ -15,3 +15,6 @@ read_items-returns-in-Err t c = row_fails (item_step (item_at c.args.strict c.ar
 pub read_open_items-returns-in-Err : goal.read_open_items-returns-in-Err
 read_open_items-returns-in-Err t c = open_fails (item_step (item_at c.args.strict c.args.total c.args.levels)) c.in-Err.fault c.args.total (length c.args.bytes.now) c.loop-turn._turn
     c.loop-turn.items c.loop-turn.rest.now _ c.loop-turn-test.true (sym c.is_break.ensures ∙ c.if-is_break.false) c.in-Err.ensures c.loop-turn.invariant
+
+pub next_pair-admit-requires-clause-spelled : goal.next_pair-admit-requires-clause-spelled
+next_pair-admit-requires-clause-spelled t c = c.as_received-received.ensures c.args.strict c.args.total c.args.levels c.in_ok-key.key c.saturating_sub-place.ensures c.in_ok-key.ensures

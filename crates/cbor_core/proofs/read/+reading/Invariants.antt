@@ -1,5 +1,5 @@
 use Rattle.std.proofs.Common.{◌≡◌, ◌-◌, ◌+◌, ◌*◌, [], length}
-use Rattle.cbor_core.specs.Keys.{key_set}
+use Rattle.cbor_core.specs.Keys.{Keeps}
 use Rattle.cbor_core.specs.Reading.{row_at, open_at, item_step, pair_step, item_at, key_spellings}
 use Rattle.cbor_core.proofs.read.+reading.Given as goal
 
@@ -45,14 +45,14 @@ abbrev pub invariant-read_pairs-loop-turn : goal.invariant-read_pairs-loop-turn
 invariant-read_pairs-loop-turn l = record {
   reads : row_at (pair_step l.strict l.total (item_at l.strict l.total l.levels)) (l.n - l._turn) l.pairs l.rest
       ≡ row_at (pair_step l.strict l.total (item_at l.strict l.total l.levels)) l.n [] l.bytes;
-  keys : l.keys.keys ≡ key_set (key_spellings l.pairs);
+  keys : Keeps l.keys (key_spellings l.pairs);
 }
 
 abbrev pub invariant-read_open_pairs-loop-turn : goal.invariant-read_open_pairs-loop-turn
 invariant-read_open_pairs-loop-turn l = record {
   reads : open_at (pair_step l.strict l.total (item_at l.strict l.total l.levels)) l.total (length l.bytes - l._turn) l.pairs l.rest
       ≡ open_at (pair_step l.strict l.total (item_at l.strict l.total l.levels)) l.total (length l.bytes) [] l.bytes;
-  keys : l.keys.keys ≡ key_set (key_spellings l.pairs);
+  keys : Keeps l.keys (key_spellings l.pairs);
 }
 
 abbrev pub decreases-read_one_pair : goal.decreases-read_one_pair
