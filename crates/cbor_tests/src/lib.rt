@@ -3,7 +3,7 @@
 
 #[cfg(test)]
 mod tests {
-    use cbor_core::{Cursor, read_wire, write_det};
+    use cbor_core::{Cursor, Part, read_wire, write_det};
     use std::test::Fail;
 
     /// What a cursor shows of an item, in one line: its place, major type, number, count, content, chunks and bytes.
@@ -86,6 +86,56 @@ mod tests {
         ];
         for (input, answer) in rows {
             let line = lines(&rt, input)?;
+            assert_eq!(rt; line.as_str(), answer);
+        }
+        Ok(())
+    }
+
+    /// The content of a part: a byte string as hex, a text as it is.
+    fn content_of(rt: &HostRuntime, part: &Part) -> Result<String, Fail> {
+        match part.bytes(rt.alloc()) {
+            Ok(Some(bytes)) => return Ok(hex::encode(rt.alloc(), bytes.as_list())?),
+            Ok(None) => {}
+            Err(_) => return Err(Fail::new("no memory")),
+        }
+        match part.text(rt.alloc()) {
+            Ok(Some(text)) => Ok(String::from_str(rt.alloc(), text.as_list())?),
+            Ok(None) => Ok(String::from_str(rt.alloc(), "-")?),
+            Err(_) => Err(Fail::new("no memory")),
+        }
+    }
+
+    /// The places and contents of the items inside an item: bytes as hex, text as it is.
+    fn parts(rt: &HostRuntime, input: &str) -> Result<String, Fail> {
+        let bytes = hex::decode(rt.alloc(), input)?;
+        let Ok((whole, _taken)) = Part::open(rt.alloc(), bytes.as_slice()) else {
+            return Ok(String::from_str(rt.alloc(), "refused")?);
+        };
+        let mut shown = String::new(rt.alloc());
+        let mut next = whole.inside();
+        for _part in 0..4 {
+            let Some(part) = next else {
+                break;
+            };
+            let content = content_of(rt, &part)?;
+            shown.push_str(format!(in rt.alloc(); "{} {content};", part.at())?.as_str())?;
+            next = part.after();
+        }
+        Ok(shown)
+    }
+
+    #[test]
+    fn a_part_hands_out_contents(rt: HostRuntime) -> Result<(), Fail> {
+        let rows = [
+            ("8342010261610a", "1 0102;4 a;6 -;"),
+            ("9f5f41014102ff7f61616162ffff", "1 0102;7 ab;"),
+            ("a1416b6176", "1 6b;3 v;"),
+            ("c24103", "1 03;"),
+            ("80", ""),
+            ("82", "refused"),
+        ];
+        for (input, answer) in rows {
+            let line = parts(&rt, input)?;
             assert_eq!(rt; line.as_str(), answer);
         }
         Ok(())
