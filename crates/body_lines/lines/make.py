@@ -407,7 +407,7 @@ class Form:
 
 def forms():
     hmac, null, size, sixteen = row(b"\x05", of(2, HASH)), b"\xf6", number_slot(1300, 65535), string_slot(2, GUID, **SIXTEENS)
-    sig, hello = row(b"\x2a", b"\x40"), [b"\x19\xff\xff", of(2, GUID), of(2, NONCE), b"\x65LAB32", b"\x3a\x00\x01\x00\x01"]
+    sig, hello = row(b"\x26", b"\x40"), [b"\x19\xff\xff", of(2, GUID), of(2, NONCE), b"\x65LAB32", b"\x3a\x00\x01\x00\x01"]
     seconds = number_slot(3600, (1 << 32) - 1)
     yield Form(10, mfg_slots(3, COSE_BODIES), "key")
     yield Form(10, mfg_slots(2, CHAIN_BODIES), "key")
@@ -431,8 +431,8 @@ def forms():
     yield Form(66, hash_slots(6, LONG_HASH), "hash", back=[null])
     yield Form(67, [Slot(null, size.all())])
     text, stamp = string_slot(3, b"not found", (0,)), Slot(null, [b"\x3b" + b"\xff" * 8, b"\xbf\x01\x00\x00\x01\xff", b"\xa2\x01\x00\x00\x01"])
-    code, ident = number_slot(500, 65535), Slot(b"\x00", [b"\xd8\x20\x9f\x5f\xff\xff", b"\x82" * 14 + b"\x80" * 15])
-    yield Form(255, [code, number_slot(20, (1 << 64) - 1), text, stamp, ident])
+    code, ident = number_slot(6, 65535), Slot(b"\x00", [b"\xd8\x20\x9f\x5f\xff\xff", b"\x82" * 14 + b"\x80" * 15])
+    yield Form(255, [code, number_slot(30, (1 << 64) - 1), text, stamp, ident])
 
 
 def wide_row(width):
