@@ -1,22 +1,22 @@
 -- The count of failed draws over a run of the rendezvous server.
-use Rattle.std.proofs.Common.{◌≡◌, ℕ, ◌≤◌, Bool, true, false, ◌||◌, List, [], ◌∷◌, Result, Ok, Err, sym, ap, ◌∙◌, subst, arith}
+use Rattle.std.proofs.Common.{◌≡◌, ℕ, ◌≤◌, Bool, true, false, ◌||◌, List, [], ◌∷◌, Result, Ok, Err, refl, sym, ap, ◌∙◌, subst, arith}
 use Rattle.std.specs.Prelude.{◌==◌, if◌then◌else◌}
 use Rattle.fdo_ports.specs.Count.{Rises}
 use Rattle.fdo_ports.specs.Draw.{Drawn, Draws}
 use Rattle.fdo_ports.specs.declared.failed.Failed.{Failed}
 use Rattle.fdo_msgs.specs.Run.{Runs}
 use Rattle.fdo_msgs.specs.declared.answer.Answer.{Answer}
-use Rattle.fdo_msgs.specs.declared.cause.Cause.TheVariants.{Turn, Body, Outside}
+use Rattle.fdo_msgs.specs.declared.cause.Cause.TheVariants.{Turn}
 use Rattle.fdo_msgs.specs.Reading.{body_at}
 use Rattle.fdo_msgs.specs.declared.msg.Msg.{Msg}
-use Rattle.fdo_msgs.specs.declared.msg.Msg.TheVariants.{Hello, HelloAck, Error}
+use Rattle.fdo_msgs.specs.declared.msg.Msg.TheVariants as msg
 use Rattle.fdo_msgs.specs.declared.packet.Packet.{Packet}
 use Rattle.rendezvous.specs.RvState.{RvGivesUp, RvState}
 use Rattle.rendezvous.specs.Receiving.{received_as, with_body}
 use Rattle.rendezvous.specs.RvStep.{NonceStep, ReceivedStep, RvStep, TokenStep, hello_ack}
 use Rattle.rendezvous.specs.declared.received.Received.{Received}
 use Rattle.rendezvous.specs.declared.received.Received.TheVariants as received
-use Rattle.fdo_commands.specs.Answering.{any_fault, names_fault}
+use Rattle.fdo_commands.specs.Answering.{any_fault, is_failed_draw, names_fault}
 use Rattle.fdo_commands.specs.Ending.{Ends, Streams}
 use Rattle.fdo_commands.specs.declared.status.Status.{Status}
 use Rattle.fdo_commands.specs.declared.status.Status.TheVariants as status
@@ -53,28 +53,41 @@ nonce_counts (Ok nonce) answer before between after draw step =
 nonce_counts (Err _) answer before between after draw step =
     subst (λ a. CountsIf (names_fault a) before.faults after.faults) (sym step.0) (subst (λ d. Rises before.faults d.faults) (sym step.1) draw.1)
 
--- no message is unfit because of an object
+-- no message is unfit because of a draw
 abbrev NoObject : Received → Type 0
-NoObject (received.Unfit (Outside _)) = ⊥
+NoObject (received.Unfit cause) = is_failed_draw cause ≡ false
 NoObject _ = Unit {0}
 
 received_counts : (what : Received) (kind : ℕ) (s : RvState) (answer : Answer) (t : RvState) → NoObject what → ReceivedStep what kind s answer t → CountsIf (names_fault answer) s.random.faults t.random.faults
 received_counts received.PeerError kind s answer t fit step = subst (λ a. CountsIf (names_fault a) s.random.faults t.random.faults) (sym step.0) (ap (λ (u : RvState). u.random.faults) step.1)
-received_counts (received.Unfit (Turn k)) kind s answer t fit step = subst (λ a. CountsIf (names_fault a) s.random.faults t.random.faults) (sym step.0) (ap (λ (u : RvState). u.random.faults) step.1)
-received_counts (received.Unfit (Body place)) kind s answer t fit step = subst (λ a. CountsIf (names_fault a) s.random.faults t.random.faults) (sym step.0) (ap (λ (u : RvState). u.random.faults) step.1)
-received_counts (received.Unfit (Outside _)) kind s answer t fit step = absurd fit
+received_counts (received.Unfit cause) kind s answer t fit step =
+    let fault : names_fault answer ≡ false = ap names_fault step.0 ∙ fit in
+    subst (λ b. CountsIf b s.random.faults t.random.faults) (sym fault) (ap (λ (u : RvState). u.random.faults) step.1)
 received_counts received.Hello kind s answer t fit step = nonce_counts step.0 answer s.random step.1 t.random step.2 step.3
 
 no_object_body : (said : Result Msg ℕ) → NoObject (with_body said)
-no_object_body (Ok Hello) = tt
-no_object_body (Ok (HelloAck _)) = tt
-no_object_body (Ok (Error _ _ _ _ _)) = tt
-no_object_body (Err place) = tt
+no_object_body (Ok msg.Hello) = tt
+no_object_body (Ok (msg.AppStart _)) = refl
+no_object_body (Ok (msg.SetCredentials _)) = refl
+no_object_body (Ok (msg.SetHmac _)) = refl
+no_object_body (Ok msg.DiDone) = refl
+no_object_body (Ok (msg.HelloAck _)) = refl
+no_object_body (Ok (msg.AcceptOwner _)) = refl
+no_object_body (Ok (msg.HelloRv _ _)) = refl
+no_object_body (Ok (msg.HelloRvAck _ _)) = refl
+no_object_body (Ok (msg.HelloDevice _ _ _ _ _ _)) = refl
+no_object_body (Ok (msg.GetOvNextEntry _)) = refl
+no_object_body (Ok (msg.DeviceReady _ _)) = refl
+no_object_body (Ok (msg.OwnerReady _)) = refl
+no_object_body (Ok (msg.Done _)) = refl
+no_object_body (Ok (msg.Done2 _)) = refl
+no_object_body (Ok (msg.Error _ _ _ _ _)) = refl
+no_object_body (Err place) = refl
 
 no_object_if : (peer hello : Bool) (said : Result Msg ℕ) (kind : ℕ) → NoObject (if peer then received.PeerError else if hello then with_body said else received.Unfit (Turn kind))
 no_object_if true hello said kind = tt
 no_object_if false true said kind = no_object_body said
-no_object_if false false said kind = tt
+no_object_if false false said kind = refl
 
 no_object : (packet : Packet) → NoObject (received_as packet)
 no_object packet = no_object_if (packet.kind == 255) (packet.kind == 20) (body_at 20 packet.body) packet.kind

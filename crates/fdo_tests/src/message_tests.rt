@@ -1,7 +1,7 @@
 //! Packets, tokens and bodies.
 use cbor_core::{Blob, Item, NoMemory, Text};
 use fdo_msgs::{
-    BodyFault, Cause, Msg, Object, Packet, Token, error_packet, read_body, read_number, token_text,
+    BodyFault, Cause, HttpFault, Msg, Object, Packet, Token, error_packet, read_body, read_number, token_text,
     write_body,
 };
 use fdo_ports::ListRandom;
@@ -65,6 +65,108 @@ fn bodies_are_read_to_their_end(rt: HostRuntime) -> Result<(), NoMemory> {
         }
     }
     Ok(())
+}
+
+/// A type, a body of it, where its first fault stands, and else how the message is written.
+type BodyCase = (u8, &'static [u8], Option<usize>, &'static [u8]);
+
+static BODIES: [BodyCase; 38] = [
+    (10, b"\x81\x85\x0a\x01\x61s\x61i\x41k", None, b"\x81\x85\x0a\x01\x61s\x61i\x41k"),
+    (10, b"\x81\x85\x05\x02\x60\x60\x41k", None, b"\x81\x85\x05\x02\x60\x60\x81\x41k"),
+    (10, b"\x81\x85\x02\x04\x00\x00\x00", Some(2), b""),
+    (10, b"\x81\x85\x0a\x04\x00\x00\x00", Some(3), b""),
+    (10, b"\x81\x84\x0a\x00\x60\x60", Some(1), b""),
+    (11, b"\x81\x41h", None, b"\x81\x41h"),
+    (11, b"\x81\x61h", Some(1), b""),
+    (12, b"\x81\x82\x05\x58\x200123456789abcdef0123456789abcdef", None, b"\x81\x82\x05\x58\x200123456789abcdef0123456789abcdef"),
+    (12, b"\x81\x82\x05\x58\x1f0123456789abcdef0123456789abcde", Some(3), b""),
+    (12, b"\x81\x82\x07\x58\x200123456789abcdef0123456789abcdef", Some(2), b""),
+    (13, b"\x80", None, b"\x80"),
+    (20, b"\x81\x00\x00", Some(0), b""),
+    (20, b"\x80\x00", Some(1), b""),
+    (21, b"\x81\x500123456789abcdef", None, b"\x81\x500123456789abcdef"),
+    (21, b"\x81\x5f\x480123456789abcdef\xff", Some(11), b""),
+    (21, b"\x81\x5f\x4801234567\x4889abcdef\xff", None, b"\x81\x500123456789abcdef"),
+    (21, b"\x81\x4f\x00", Some(1), b""),
+    (22, b"\x80", Some(0), b""),
+    (23, b"\x81\x1a\xff\xff\xff\xff", None, b"\x81\x1a\xff\xff\xff\xff"),
+    (23, b"\x81\x1b\x00\x00\x00\x01\x00\x00\x00\x00", Some(1), b""),
+    (30, b"\x82\x500123456789abcdef\x82\x26\x40", None, b"\x82\x500123456789abcdef\x82\x26\x40"),
+    (30, b"\x82\x500123456789abcdef\x82\x26\x60", Some(20), b""),
+    (31, b"\x9f\x500123456789abcdef\x82\x38\x06\x40\xff", None, b"\x82\x500123456789abcdef\x82\x26\x40"),
+    (60, b"\x86\x00\x500123456789abcdef\x50fedcba9876543210\x61k\x20\x82\x26\x40", None, b"\x86\x00\x500123456789abcdef\x50fedcba9876543210\x61k\x20\x82\x26\x40"),
+    (60, b"\x86\x1a\x00\x01\x00\x00\x500123456789abcdef\x50fedcba9876543210\x61k\x20\x82\x26\x40", Some(1), b""),
+    (62, b"\x81\x18\xff", None, b"\x81\x18\xff"),
+    (62, b"\x81\x19\x01\x00", Some(1), b""),
+    (66, b"\x82\xf6\xf6", None, b"\x82\xf6\xf6"),
+    (66, b"\x82\xf6\xf7", Some(2), b""),
+    (66, b"\x82\x82\x05\x58\x200123456789abcdef0123456789abcdef\x19\xff\xff", None, b"\x82\x82\x05\x58\x200123456789abcdef0123456789abcdef\x19\xff\xff"),
+    (67, b"\x81\xf6", None, b"\x81\xf6"),
+    (67, b"\x81\x1a\x00\x01\x00\x00", Some(1), b""),
+    (67, b"\x82\xf6\xf6", Some(0), b""),
+    (70, b"\x81\x500123456789abcdef", None, b"\x81\x500123456789abcdef"),
+    (71, b"\x81\x500123456789abcdef\x00", Some(18), b""),
+    (71, b"\x81\x500123456789abcdef", None, b"\x81\x500123456789abcdef"),
+    (255, b"\x85\x06\x18\x1e\x69not found\xf6\x00", None, b"\x85\x06\x18\x1e\x69not found\xf6\x00"),
+    (255, b"\x85\x06\x18\x1e\x49not found\xf6\x00", Some(4), b""),
+];
+
+#[test]
+fn bodies_of_each_type_are_read_and_written(rt: HostRuntime) -> Result<(), NoMemory> {
+    for case in &BODIES {
+        match read_body(rt.alloc(), case.0, case.1) {
+            Ok(said) => {
+                let body = write_body(rt.alloc(), &said)?;
+                assert_eq!(rt; body.as_list(), case.3);
+                assert_eq!(rt; case.2, None);
+            }
+            Err(BodyFault::Body(place)) => assert_eq!(rt; case.2, Some(place)),
+            Err(BodyFault::NoMemory) => assert!(rt; false, "memory ran out"),
+        }
+    }
+    Ok(())
+}
+
+/// A cause, its word, and its codes at a message of type 22 and of type 64, 0 for none.
+type CauseCase = (Cause, &'static str, u16, u16);
+
+static CAUSES: [CauseCase; 27] = [
+    (Cause::Token, "token", 1, 1),
+    (Cause::Turn(64), "turn", 101, 101),
+    (Cause::Body(1), "body", 100, 100),
+    (Cause::NoAlgorithm(-7), "noalgorithm", 101, 101),
+    (Cause::NotVerified, "notverified", 3, 101),
+    (Cause::NotOpened, "notopened", 101, 101),
+    (Cause::SeenIv, "seeniv", 101, 101),
+    (Cause::Nonce, "nonce", 3, 101),
+    (Cause::HashDiffers, "hash", 3, 101),
+    (Cause::GuidDiffers, "guid", 5, 5),
+    (Cause::OwnerKey, "ownerkey", 2, 2),
+    (Cause::Address(1), "address", 4, 4),
+    (Cause::Missing([7; 16]), "missing", 6, 6),
+    (Cause::EntryNumber(3), "entry", 101, 101),
+    (Cause::Changed(None), "changed", 101, 101),
+    (Cause::Clash([7; 16]), "clash", 101, 101),
+    (Cause::Size(65535), "size", 101, 101),
+    (Cause::Reuse, "reuse", 102, 102),
+    (Cause::Full(4096), "full", 500, 500),
+    (Cause::Outside(Object::Disk), "outside", 500, 500),
+    (Cause::Outside(Object::Shut), "outside", 500, 500),
+    (Cause::Outside(Object::Signer), "outside", 500, 500),
+    (Cause::Outside(Object::Random), "outside", 500, 500),
+    (Cause::Outside(Object::Clock), "outside", 500, 500),
+    (Cause::Peer(100), "peer", 0, 0),
+    (Cause::Http(HttpFault::BadHead), "http", 0, 0),
+    (Cause::Http(HttpFault::Status(404)), "http", 0, 0),
+];
+
+#[test]
+fn causes_have_codes_and_words(rt: HostRuntime) {
+    for case in &CAUSES {
+        assert_eq!(rt; case.0.word(), case.1);
+        assert_eq!(rt; case.0.code(22).unwrap_or(0), case.2);
+        assert_eq!(rt; case.0.code(64).unwrap_or(0), case.3);
+    }
 }
 
 #[test]
