@@ -1,5 +1,5 @@
 -- What is written is read as it was.
-use Rattle.std.proofs.Common.{◌≡◌, ℕ, suc, ◌^◌, ◌-◌, ◌<◌, ◌≤◌, ◌++◌, List, [], ◌∷◌, length, map, Bool, true, false, nat_le, Option, Some, None, Result, Ok, Err, option_map, IfOk, refl, sym, ap, subst, ◌∙◌, arith}
+use Rattle.std.proofs.Common.{◌≡◌, ℕ, ◌^◌, ◌-◌, ◌<◌, ◌≤◌, List, [], ◌∷◌, length, map, true, false, Some, None, Result, Ok, Err, IfOk, refl, sym, ap, subst, ◌∙◌, arith}
 use Rattle.std.specs.List.{AllByRecursion}
 use Rattle.std.proofs.lemmas.Bool.{eq-eqb, le-leb}
 use Rattle.cbor_core.specs.declared.no_memory.NoMemory.{NoMemory}
@@ -9,19 +9,18 @@ use Rattle.cbor_core.specs.declared.item.Item.TheFolds.{fold-roll-Item}
 use Rattle.cbor_core.specs.declared.item.Item.TheVariants as items
 use Rattle.cbor_core.specs.Deterministic.{det}
 use Rattle.cbor_core.specs.Norm.{norm, norm_step, IsFit, IsFitWithin, IsFitLayer}
-use Rattle.cbor_core.specs.Spelling.{SpellsWithin}
 use Rattle.cbor_core.specs.Spots.{bytes_in, text_in}
 use Rattle.cbor_core.proofs.Fits.{fit_spells}
 use Rattle.cbor_core.proofs.Loose.{loosely}
 use Rattle.hash_hmac.specs.declared.hash.Hash.{Hash}
-use Rattle.key_codec.specs.Hash.{hash_in, item_of_hash}
-use Rattle.key_codec.specs.Key.{body_in, body_if_known, item_of_body, form_of_body}
-use Rattle.key_codec.specs.Numbers.{integer_in, item_of_integer}
+use Rattle.key_codec.specs.Hash.{item_of_hash}
+use Rattle.key_codec.specs.Key.{body_in, item_of_body, form_of_body}
+use Rattle.key_codec.specs.Numbers.{item_of_integer}
 use Rattle.key_codec.proofs.Back.{integer_back, type_fits, encoding_fits, body_back}
 use Rattle.key_codec.proofs.HashLaws.{hash_back}
 use Rattle.key_codec.proofs.SigLaws.{sig_info_back}
 use Rattle.key_codec.proofs.Norms.{norm_uint, norm_bytes, norm_array, norm_integer, norm_body, norm_hash, norm_sig_info}
-use Rattle.fdo_msgs.specs.Body.{IsBody, fields_in, row_in, said_in, item_of, body_of}
+use Rattle.fdo_msgs.specs.Body.{IsBody, fields_in, row_in, item_of, body_of}
 use Rattle.fdo_msgs.specs.declared.field.Field.{Field}
 use Rattle.fdo_msgs.specs.declared.field.Field.TheVariants as field
 use Rattle.fdo_msgs.specs.declared.msg.MfgInfo.{MfgInfo}
@@ -30,7 +29,7 @@ use Rattle.fdo_msgs.specs.declared.msg.Msg.TheVariants as msg
 use Rattle.fdo_msgs.specs.declared.shape.Shape.{Shape}
 use Rattle.fdo_msgs.specs.declared.shape.Shape.TheVariants as shape
 use Rattle.fdo_msgs.specs.Field.{up_to, of_length, null, is_null, mfg_in, field_in, item_of_field, item_of_mfg}
-use Rattle.fdo_msgs.specs.Fit.{IsHash, IsMfg, IsField, AreFields, IsMsg, norm_msg}
+use Rattle.fdo_msgs.specs.Fit.{IsMfg, IsField, AreFields, IsMsg, norm_msg}
 use Rattle.fdo_msgs.specs.Row.{shapes_of}
 use Rattle.fdo_msgs.specs.Said.{kind_of, fields_of, message_of, said_none, said_one, said_two, said_five, said_six}
 
@@ -196,7 +195,7 @@ msg_back m h =
     let parts = map item_of_field (fields_of m) in
     let apart : norm (item_of m) ≡ items.Array (map norm parts) = norm_array parts in
     let row : row_in (map shape_of (fields_of m)) (out-Item (norm (item_of m))) ≡ Some (map norm_field (fields_of m)) =
-        ap (λ (x : Item). row_in (map shape_of (fields_of m)) (out-Item x)) apart ∙ ap (row_in (map shape_of (fields_of m))) (items.outs-Array (map norm parts)) ∙ fields_back (fields_of m) h in
+    ap (λ (x : Item). row_in (map shape_of (fields_of m)) (out-Item x)) apart ∙ ap (row_in (map shape_of (fields_of m))) (items.outs-Array (map norm parts)) ∙ fields_back (fields_of m) h in
     record {
       item = norm (item_of m);
       spelled = loosely 16 (norm (item_of m)) (det (item_of m)) (fit_spells 16 (item_of m) (msg_fit m h));

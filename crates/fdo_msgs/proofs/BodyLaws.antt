@@ -1,13 +1,12 @@
 -- What a body is read as is what it says.
-use Rattle.std.proofs.Common.{◌≡◌, ℕ, ◌^◌, ◌<◌, ◌≤◌, ◌++◌, List, [], length, map, take, drop, Bool, true, false, cond, nat_eq, Option, Some, None, Result, Ok, Err, refl, sym, ap, subst, ◌∙◌, arith, IfOk}
+use Rattle.std.proofs.Common.{◌≡◌, ℕ, ◌^◌, ◌<◌, ◌++◌, List, length, take, drop, Bool, true, false, cond, nat_eq, Option, Some, None, Result, Ok, Err, refl, sym, ap, subst, ◌∙◌, arith, IfOk}
 use Rattle.std.proofs.lemmas.Bool.{eq-eqb, eqb-true}
 use Rattle.std.proofs.lemmas.List.{take-append-drop, take_all}
 use Rattle.cbor_core.specs.declared.fault.CborFault.{CborFault}
 use Rattle.cbor_core.specs.declared.item.Item.{Item, out-Item}
-use Rattle.cbor_core.specs.Parts.{inner}
 use Rattle.cbor_core.specs.Reading.{first_item}
 use Rattle.cbor_core.specs.Spelling.{SpellsWithin}
-use Rattle.cbor_core.specs.Spots.{start, spot_item, spot_parts, spot_raw, IsSpelled}
+use Rattle.cbor_core.specs.Spots.{start, spot_raw, IsSpelled}
 use Rattle.cbor_core.proofs.Bytes.{IsBytes}
 use Rattle.cbor_core.proofs.Readings.{first_found, first_again}
 use Rattle.cbor_core.proofs.SpotLaws.{spot_is, has_parts}
@@ -16,7 +15,7 @@ use Rattle.fdo_msgs.specs.declared.body.BodyFault.{BodyFault}
 use Rattle.fdo_msgs.specs.declared.field.Field.{Field}
 use Rattle.fdo_msgs.specs.declared.msg.Msg.{Msg}
 use Rattle.fdo_msgs.specs.declared.shape.Shape.{Shape}
-use Rattle.fdo_msgs.specs.Reading.{ReadsBody, body_at, body_in, body_if_known, said_at, said_or}
+use Rattle.fdo_msgs.specs.Reading.{ReadsBody, body_at, body_in, body_if_known, said_or}
 use Rattle.fdo_msgs.specs.Row.{shapes_of, row_at}
 use Rattle.fdo_msgs.specs.Said.{message_of}
 use Rattle.fdo_msgs.proofs.RowLaws.{Agrees, row_agrees}

@@ -1,5 +1,5 @@
 -- A row of parts at their places says what the row of items says.
-use Rattle.std.proofs.Common.{◌≡◌, ℕ, suc, List, [], ◌∷◌, length, map, Bool, true, false, cond, nat_eq, Option, Some, None, Result, Ok, Err, refl, sym, ap, subst, ◌∙◌, arith}
+use Rattle.std.proofs.Common.{◌≡◌, ℕ, suc, List, [], ◌∷◌, length, map, Bool, true, false, cond, nat_eq, Option, Some, None, Result, Ok, Err, refl, ap, subst, ◌∙◌, arith}
 use Rattle.std.proofs.lemmas.Bool.{eq-eqb, eqb-true}
 use Rattle.cbor_core.specs.declared.item.Item.{Item, out-Item}
 use Rattle.cbor_core.specs.declared.item.Item.TheOpen.{Item-F}
@@ -7,8 +7,7 @@ use Rattle.cbor_core.specs.Parts.{inner, inner_in}
 use Rattle.cbor_core.specs.Spots.{Spot, spot_item, spot_parts}
 use Rattle.fdo_msgs.specs.Body.{fields_in, row_in}
 use Rattle.fdo_msgs.specs.Field.{field_in}
-use Rattle.fdo_msgs.specs.Places.{place_at}
-use Rattle.fdo_msgs.specs.Row.{field_at, value_or, fields_at, has_length, row_at}
+use Rattle.fdo_msgs.specs.Row.{fields_at, has_length, row_at}
 use Rattle.fdo_msgs.specs.declared.field.Field.{Field}
 use Rattle.fdo_msgs.specs.declared.shape.Shape.{Shape}
 

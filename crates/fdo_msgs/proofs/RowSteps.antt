@@ -1,6 +1,6 @@
 -- Reading a row part by part.
 use Rattle.std.proofs.Common.{◌≡◌, ℕ, zero, suc, ◌+◌, ◌<◌, ◌≤◌, List, [], ◌∷◌, ◌++◌, length, drop, get_or, Option, Some, None, Result, Ok, Err, refl, sym, ap, ◌∙◌, append_assoc, append-nil, arith}
-use Rattle.cbor_core.specs.Spots.{Spot, Standing, first_of, spots_of}
+use Rattle.cbor_core.specs.Spots.{Standing, first_of, spots_of}
 use Rattle.cbor_core.proofs.SpotLaws.{spots_first}
 use Rattle.fdo_msgs.specs.declared.body.BodyFault.{BodyFault}
 use Rattle.fdo_msgs.specs.declared.body.BodyFault.TheVariants as faults

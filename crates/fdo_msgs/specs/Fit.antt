@@ -1,5 +1,5 @@
 -- Messages that can be written and are then read as they were.
-use Rattle.std.specs.Prelude.{◌≡◌, ℕ, ◌^◌, ◌<◌, List, [], ◌∷◌, map, length, true, Option, Some, None}
+use Rattle.std.specs.Prelude.{◌≡◌, ◌^◌, ◌<◌, List, [], ◌∷◌, length, true, Some, None}
 use Rattle.cbor_core.specs.Norm.{norm, IsFitWithin}
 use Rattle.hash_hmac.specs.declared.hash.Hash.{Hash}
 use Rattle.hash_hmac.specs.Value.{IsConsistent}

@@ -28,12 +28,12 @@ abbrev pub mfg_place_in : ℕ → Option (Spot × Spot × Spot × Spot × Spot) 
 mfg_place_in at None = at
 mfg_place_in at (Some p) =
     if is_type (integer_in (spot_item p.0)) then
-        if is_encoding (integer_in (spot_item p.1)) then
-            if is_text p.2 then
-                if is_text p.3 then encoded_place (integer_in (spot_item p.1)) p.1 p.4
-                else p.3.at
-            else p.2.at
-        else p.1.at
+    if is_encoding (integer_in (spot_item p.1)) then
+    if is_text p.2 then
+    if is_text p.3 then encoded_place (integer_in (spot_item p.1)) p.1 p.4
+    else p.3.at
+    else p.2.at
+    else p.1.at
     else p.0.at
 
 unfoldable pub mfg_place : Spot → ℕ

@@ -11,7 +11,7 @@ use Rattle.fdo_msgs.specs.declared.body.BodyFault.TheVariants as faults
 use Rattle.fdo_msgs.specs.declared.field.Field.{Field}
 use Rattle.fdo_msgs.specs.declared.msg.Msg.{Msg}
 use Rattle.fdo_msgs.specs.declared.shape.Shape.{Shape}
-use Rattle.fdo_msgs.specs.Row.{◌>>=◌, shapes_of, row_at, Refuses, Reads}
+use Rattle.fdo_msgs.specs.Row.{◌>>=◌, shapes_of, row_at, Reads}
 use Rattle.fdo_msgs.specs.Said.{message_of}
 
 -- where a fault of CBOR stands

@@ -207,10 +207,7 @@ fn is_whole(map: &Part) -> bool
 fn has_labels(map: &Part) -> bool
     ensures { result ≡ has_all_labels (spot_parts map.now.spot) }
 {
-    has_label(map, 1)
-        && has_label(map, -1)
-        && has_label(map, -2)
-        && has_label(map, -3)
+    has_label(map, 1) && has_label(map, -1) && has_label(map, -2) && has_label(map, -3)
 }
 
 fn has_label(map: &Part, label: i64) -> bool

@@ -1,4 +1,4 @@
-use Rattle.std.proofs.Common.{◌^◌, ◌<◌, length, arith, Err}
+use Rattle.std.proofs.Common.{arith, Err}
 use Rattle.fdo_msgs.specs.declared.body.BodyFault.TheVariants as faults
 use Rattle.fdo_msgs.specs.Reading.{ReadsBody, body_at}
 use Rattle.fdo_msgs.proofs.BodyLaws.{known_body, unknown_body, reads_found, reads_only}

@@ -1,5 +1,4 @@
-use Rattle.std.proofs.Common.{◌≡◌, ◌∙◌, sym, ap, subst, refl, arith, Result, Err, length}
-use Rattle.fdo_msgs.specs.declared.field.Field.{Field}
+use Rattle.std.proofs.Common.{◌∙◌, sym, ap, Err}
 use Rattle.fdo_msgs.specs.declared.shape.Shape.TheVariants as shape
 use Rattle.fdo_msgs.proofs.RowSteps.{row_lacks, row_fails, row_more, row_ends}
 use Rattle.fdo_msgs.proofs.rows.read_fields.Goals as goal
