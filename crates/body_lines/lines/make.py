@@ -11,7 +11,7 @@ fault: the offset of
 
 An array of another length, and a map that lacks a label, have the place of their own head; a number that is not known
 (the type or the encoding of a key, the kind of a hash) has the place of that number; a byte string of a wrong length
-that of its head. Any well-formed spelling is read.
+that of its head. Any well-formed spelling is read. Types whose bodies are not read have the place 0.
 """
 
 
@@ -266,12 +266,11 @@ BODIES = {
 
 
 def answer(kind, body):
+    if kind not in BODIES:
+        return "Body 0"
     reader = Reader(body)
     try:
-        part = reader.item()
-        if kind not in BODIES:
-            raise Fault(0)
-        said = BODIES[kind](part)
+        said = BODIES[kind](reader.item())
         if reader.at != len(body):
             raise Fault(reader.at)
     except Fault as fault:
