@@ -5,7 +5,7 @@ ghost use Rattle.fdo_msgs.specs.Places.{five_spots, mfg_place, place_at, is_enco
 
 use crate::shape::Shape;
 use cbor_core::Part;
-use key_codec::places::{is_type, integer_at};
+use key_codec::places::{integer_at, is_type};
 use key_codec::{Form, find_encoded_fault, find_hash_fault, find_sig_info_fault};
 
 /// Where a part that is not of a shape is not of it: the offset of the first part inside that is at fault, or its own.

@@ -67,7 +67,9 @@ pub enum Msg {
         size: Option<u64>,
     },
     /// TO2.OwnerServiceInfoReady (67).
-    OwnerReady { size: Option<u64> },
+    OwnerReady {
+        size: Option<u64>,
+    },
     /// TO2.Done (70): NonceTO2ProveDv.
     Done(Nonce),
     /// TO2.Done2 (71): NonceTO2SetupDv.

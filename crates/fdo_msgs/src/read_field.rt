@@ -14,7 +14,11 @@ use key_codec::{KeyFault, integer_at, read_hash, read_sig_info};
 use std::alloc::Global;
 
 /// The value of a part of a shape, or None where the part is not of it.
-pub(crate) fn read_value(alloc: Global, shape: Shape, part: &Part) -> Result<Option<Field>, NoMemory>
+pub(crate) fn read_value(
+    alloc: Global,
+    shape: Shape,
+    part: &Part,
+) -> Result<Option<Field>, NoMemory>
     ensures { IfOk result (λ field. field ≡ field_in shape (spot_item part.now.spot)) }
 {
     match shape {

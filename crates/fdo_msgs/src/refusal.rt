@@ -3,11 +3,11 @@ ghost use Rattle.fdo_msgs.specs.Cause.{code_of};
 ghost use Rattle.fdo_msgs.specs.Refusal.{error_of};
 
 use crate::answer::Answer;
-use crate::write::write_body;
 use crate::cause::Cause;
 use crate::msg::Msg;
 use crate::packet::Packet;
 use crate::token::Token;
+use crate::write::write_body;
 use cbor_core::{Item, NoMemory, Text};
 use std::alloc::Global;
 

@@ -35,19 +35,17 @@ pub fn shapes(kind: u8) -> Option<&'static [Shape]>
         62 => Some(&[Shape::U8]),
         66 => Some(&[Shape::MaybeHash, Shape::MaybeSize]),
         67 => Some(&[Shape::MaybeSize]),
-        255 => Some(&[
-            Shape::U16,
-            Shape::U64,
-            Shape::Text,
-            Shape::Any,
-            Shape::Any,
-        ]),
+        255 => Some(&[Shape::U16, Shape::U64, Shape::Text, Shape::Any, Shape::Any]),
         _ => None,
     }
 }
 
 /// The values of the parts of an array, by their shapes.
-pub(crate) fn read_row(alloc: Global, shapes: &[Shape], body: &Part) -> Result<Vec<Field>, BodyFault>
+pub(crate) fn read_row(
+    alloc: Global,
+    shapes: &[Shape],
+    body: &Part,
+) -> Result<Vec<Field>, BodyFault>
     ensures { Reads (λ fields. fields.items) (row_at shapes.now body.now.spot) result }
 {
     if is_row(shapes, body) {
