@@ -2,8 +2,9 @@ ghost use Rattle.std.specs.Prelude.{◌≡◌, IfOk};
 ghost use Rattle.fdo_msgs.specs.Said.{message_of, said_none, said_one, said_two, said_five, said_six, error_of, fields_of};
 
 use crate::field::Field;
-use crate::msg::Msg;
-use cbor_core::{NoMemory, Text};
+use crate::msg::{Guid, Msg, Nonce};
+use cbor_core::{Item, NoMemory, Text};
+use key_codec::SigInfo;
 use std::alloc::Global;
 
 /// The message of a type that these values of its parts say, or None where they are no values of its parts.
@@ -128,7 +129,7 @@ fn say_six(kind: u8, a: Field, b: Field, c: Field, d: Field, e: Field, f: Field)
 pub(crate) fn fields(alloc: Global, message: &Msg) -> Result<Vec<Field>, NoMemory>
     ensures { IfOk result (λ fields. fields.items ≡ fields_of message.now) }
 {
-    let mut fields = Vec::with_capacity(alloc, 6)?;
+    let mut fields = Vec::with_capacity(alloc, 2)?;
     match message {
         Msg::AppStart(info) => fields.push(Field::Mfg(info.copy(alloc)?))?,
         Msg::SetCredentials(header) => fields.push(Field::Bytes(header.copy()?))?,
@@ -149,14 +150,7 @@ pub(crate) fn fields(alloc: Global, message: &Msg) -> Result<Vec<Field>, NoMemor
             kex,
             cipher,
             sig,
-        } => {
-            fields.push(Field::U16(*max_size))?;
-            fields.push(Field::Sixteen(*guid))?;
-            fields.push(Field::Sixteen(*nonce))?;
-            fields.push(Field::Text(kex.copy()?))?;
-            fields.push(Field::I64(*cipher))?;
-            fields.push(Field::SigInfo(sig.copy(alloc)?))?;
-        }
+        } => return hello_device_fields(alloc, *max_size, guid, nonce, kex, *cipher, sig),
         Msg::GetOvNextEntry(n) => fields.push(Field::U8(*n))?,
         Msg::DeviceReady { hmac, size } => {
             fields.push(Field::MaybeHash(*hmac))?;
@@ -169,13 +163,50 @@ pub(crate) fn fields(alloc: Global, message: &Msg) -> Result<Vec<Field>, NoMemor
             text,
             stamp,
             id,
-        } => {
-            fields.push(Field::U16(*code))?;
-            fields.push(Field::U64(*kind))?;
-            fields.push(Field::Text(text.copy()?))?;
-            fields.push(Field::Any(stamp.copy(alloc)?))?;
-            fields.push(Field::Any(id.copy(alloc)?))?;
-        }
+        } => return error_fields(alloc, *code, *kind, text, stamp, id),
     }
+    Ok(fields)
+}
+
+ghost use Rattle.std.specs.Prelude.{[], ◌∷◌};
+ghost use Rattle.fdo_msgs.specs.declared.field.Field.TheVariants as values;
+
+fn hello_device_fields(
+    alloc: Global,
+    max_size: u16,
+    guid: &Guid,
+    nonce: &Nonce,
+    kex: &Text,
+    cipher: i64,
+    sig: &SigInfo,
+) -> Result<Vec<Field>, NoMemory>
+    ensures { IfOk result (λ fields. fields.items ≡ values.U16 max_size ∷ values.Sixteen guid.now ∷ values.Sixteen nonce.now ∷ values.Text kex.now ∷ values.I64 cipher ∷ values.SigInfo sig.now ∷ []) }
+{
+    let mut fields = Vec::with_capacity(alloc, 6)?;
+    fields.push(Field::U16(max_size))?;
+    fields.push(Field::Sixteen(*guid))?;
+    fields.push(Field::Sixteen(*nonce))?;
+    fields.push(Field::Text(kex.copy()?))?;
+    fields.push(Field::I64(cipher))?;
+    fields.push(Field::SigInfo(sig.copy(alloc)?))?;
+    Ok(fields)
+}
+
+fn error_fields(
+    alloc: Global,
+    code: u16,
+    kind: u64,
+    text: &Text,
+    stamp: &Item,
+    id: &Item,
+) -> Result<Vec<Field>, NoMemory>
+    ensures { IfOk result (λ fields. fields.items ≡ values.U16 code ∷ values.U64 kind ∷ values.Text text.now ∷ values.Any stamp.now ∷ values.Any id.now ∷ []) }
+{
+    let mut fields = Vec::with_capacity(alloc, 5)?;
+    fields.push(Field::U16(code))?;
+    fields.push(Field::U64(kind))?;
+    fields.push(Field::Text(text.copy()?))?;
+    fields.push(Field::Any(stamp.copy(alloc)?))?;
+    fields.push(Field::Any(id.copy(alloc)?))?;
     Ok(fields)
 }
