@@ -3,10 +3,15 @@
 #![tactic(auto)]
 
 pub mod aead;
+mod bytes;
+mod calls;
 pub mod cert_reader;
 pub mod fault;
 pub mod holder;
 pub mod kex;
+mod lab_certificate;
+mod lab_key;
+pub mod lab_suite;
 pub mod signer;
 pub mod suite;
 pub mod verifier;
@@ -16,6 +21,7 @@ pub use cert_reader::CertReader;
 pub use fault::SuiteFault;
 pub use holder::Holder;
 pub use kex::Kex;
+pub use lab_suite::LabSuite;
 pub use signer::Signer;
 pub use suite::Suite;
 pub use verifier::Verifier;
