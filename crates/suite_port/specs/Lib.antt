@@ -4,4 +4,6 @@ pub mod Scheduled
 pub mod LabKey
 pub mod LabCertificate
 pub mod Lab
+pub mod LabKex
 pub mod LabLaws
+pub mod LabAgreement

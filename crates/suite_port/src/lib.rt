@@ -10,6 +10,7 @@ pub mod fault;
 pub mod holder;
 pub mod kex;
 mod lab_certificate;
+mod lab_kex;
 mod lab_key;
 pub mod lab_suite;
 pub mod signer;
