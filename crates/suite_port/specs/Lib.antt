@@ -7,3 +7,5 @@ pub mod Lab
 pub mod LabKex
 pub mod LabLaws
 pub mod LabAgreement
+pub mod LabSeal
+pub mod LabOpening

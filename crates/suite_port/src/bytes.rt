@@ -17,6 +17,39 @@ pub(crate) fn hash(label: &[u8], first: &[u8], second: &[u8]) -> [u8; 32]
     hasher.finalize()
 }
 
+/// SHA-256 of four texts in a row.
+pub(crate) fn hash_four(label: &[u8], first: &[u8], second: &[u8], third: &[u8]) -> [u8; 32]
+    ensures { result ≡ sha256 (label.now ++ first.now ++ second.now ++ third.now) }
+{
+    let mut hasher = Sha256::new();
+    hasher.update(label);
+    hasher.update(first);
+    hasher.update(second);
+    hasher.update(third);
+    hasher.finalize()
+}
+
+/// SHA-256 of six texts in a row.
+pub(crate) fn hash_six(
+    label: &[u8],
+    first: &[u8],
+    second: &[u8],
+    third: &[u8],
+    fourth: &[u8],
+    fifth: &[u8],
+) -> [u8; 32]
+    ensures { result ≡ sha256 (label.now ++ first.now ++ second.now ++ third.now ++ fourth.now ++ fifth.now) }
+{
+    let mut hasher = Sha256::new();
+    hasher.update(label);
+    hasher.update(first);
+    hasher.update(second);
+    hasher.update(third);
+    hasher.update(fourth);
+    hasher.update(fifth);
+    hasher.finalize()
+}
+
 /// The bytes, owned.
 pub(crate) fn owned(alloc: Global, bytes: &[u8]) -> Result<Vec<u8>, SuiteFault>
     ensures { Answers bytes_of (Some bytes.now) result }

@@ -2,6 +2,7 @@ ghost use Rattle.std.specs.Prelude.{◌≡◌, ℕ, List, false};
 
 use crate::calls::Calls;
 use crate::holder::Holder;
+use crate::suite::Suite;
 
 /// The laboratory suite, for tests and demonstrations. It is not secure: whoever knows a public key can sign. Its
 /// numbers are not COSE's: it signs with -65537, agrees by `LAB32`, and seals with -65538 and -65539.
@@ -36,4 +37,10 @@ impl Holder for LabSuite {
     ghost held = { lab_held };
 
     ghost faults = { λ s. faults_of (lab_calls s) };
+}
+
+impl Suite for LabSuite {
+    ghost use Rattle.suite_port.specs.LabLaws.{lab_verifies_signed};
+
+    ghost verifies_signed = { lab_verifies_signed };
 }
