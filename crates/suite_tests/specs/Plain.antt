@@ -1,5 +1,5 @@
 -- What the plain suite answers.
-use Rattle.std.proofs.Common.{◌≡◌, ℕ, ℤ, pos, List, [], Option, None, Some, Bool, true, refl, ap, sym, ◌∙◌, if◌then◌else◌}
+use Rattle.std.proofs.Common.{◌≡◌, ℕ, ℤ, pos, List, [], Option, None, Some, Bool, true, ap, sym, ◌∙◌, if◌then◌else◌}
 use Rattle.std.proofs.lemmas.Slice.Eq.{bytes_eq-Decides}
 use Rattle.std.specs.Ordering.{int_eq}
 use Rattle.std.specs.Str.{bytes_eq}

@@ -2,6 +2,7 @@
 //! laboratory suite against values that Python's `hashlib` computed.
 #![tactic(auto)]
 
+pub mod laws;
 pub mod plain_suite;
 
 pub use plain_suite::PlainSuite;
