@@ -1,0 +1,11 @@
+pub mod Answer
+pub mod Held
+pub mod Scheduled
+pub mod LabKey
+pub mod LabCertificate
+pub mod Lab
+pub mod LabKex
+pub mod LabLaws
+pub mod LabAgreement
+pub mod LabSeal
+pub mod LabOpening
