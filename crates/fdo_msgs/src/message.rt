@@ -1,4 +1,4 @@
-ghost use Rattle.std.specs.Prelude.{◌≡◌, IfOk};
+ghost use Rattle.std.specs.Prelude.{◌≡◌, length, IfOk};
 ghost use Rattle.fdo_msgs.specs.Said.{message_of, said_none, said_one, said_two, said_five, said_six, error_of, fields_of};
 
 use crate::field::Field;
@@ -11,26 +11,52 @@ use std::alloc::Global;
 pub(crate) fn message(kind: u8, fields: Vec<Field>) -> Option<Msg>
     ensures { result ≡ message_of kind fields.items }
 {
-    let mut parts = fields.into_iter();
-    let Some(a) = parts.next() else {
-        return say_none(kind);
-    };
-    let Some(b) = parts.next() else {
-        return say_one(kind, a);
-    };
-    let Some(c) = parts.next() else {
-        return say_two(kind, a, b);
-    };
-    let (Some(d), Some(e)) = (parts.next(), parts.next()) else {
-        return None;
-    };
-    let Some(f) = parts.next() else {
-        return say_five(kind, a, b, c, d, e);
-    };
-    if parts.next().is_some() {
-        return None;
+    match fields.len() {
+        0 => say_none(kind),
+        1 => say_single(kind, fields),
+        2 => say_pair(kind, fields),
+        5 => say_quintet(kind, fields),
+        6 => say_sextet(kind, fields),
+        _ => None,
     }
-    say_six(kind, a, b, c, d, e, f)
+}
+
+fn say_single(kind: u8, fields: Vec<Field>) -> Option<Msg>
+    requires { length fields.items ≡ 1 }
+    ensures { result ≡ message_of kind fields.items }
+{
+    let mut parts = fields.into_iter();
+    say_one(kind, parts.next()?)
+}
+
+fn say_pair(kind: u8, fields: Vec<Field>) -> Option<Msg>
+    requires { length fields.items ≡ 2 }
+    ensures { result ≡ message_of kind fields.items }
+{
+    match <[Field; 2]>::try_from(fields) {
+        Ok([a, b]) => say_two(kind, a, b),
+        Err(_fields) => None,
+    }
+}
+
+fn say_quintet(kind: u8, fields: Vec<Field>) -> Option<Msg>
+    requires { length fields.items ≡ 5 }
+    ensures { result ≡ message_of kind fields.items }
+{
+    match <[Field; 5]>::try_from(fields) {
+        Ok([a, b, c, d, e]) => say_five(kind, a, b, c, d, e),
+        Err(_fields) => None,
+    }
+}
+
+fn say_sextet(kind: u8, fields: Vec<Field>) -> Option<Msg>
+    requires { length fields.items ≡ 6 }
+    ensures { result ≡ message_of kind fields.items }
+{
+    match <[Field; 6]>::try_from(fields) {
+        Ok([a, b, c, d, e, f]) => say_six(kind, a, b, c, d, e, f),
+        Err(_fields) => None,
+    }
 }
 
 #[tactic(auto, unfolding(crate::specs::Said::said_none))]
