@@ -16,7 +16,7 @@ use Rattle.rendezvous.specs.Receiving.{received_as, with_body}
 use Rattle.rendezvous.specs.RvStep.{NonceStep, ReceivedStep, RvStep, TokenStep, hello_ack}
 use Rattle.rendezvous.specs.declared.received.Received.{Received}
 use Rattle.rendezvous.specs.declared.received.Received.TheVariants as received
-use Rattle.fdo_commands.specs.Answering.{any_fault, is_failed_draw, names_fault}
+use Rattle.fdo_commands.specs.Answering.{any_fault, is_outside, names_fault}
 use Rattle.fdo_commands.specs.Ending.{Ends, Streams}
 use Rattle.fdo_commands.specs.declared.status.Status.{Status}
 use Rattle.fdo_commands.specs.declared.status.Status.TheVariants as status
@@ -53,9 +53,9 @@ nonce_counts (Ok nonce) answer before between after draw step =
 nonce_counts (Err _) answer before between after draw step =
     subst (λ a. CountsIf (names_fault a) before.faults after.faults) (sym step.0) (subst (λ d. Rises before.faults d.faults) (sym step.1) draw.1)
 
--- no message is unfit because of a draw
+-- no message is unfit because of an object
 abbrev NoObject : Received → Type 0
-NoObject (received.Unfit cause) = is_failed_draw cause ≡ false
+NoObject (received.Unfit cause) = is_outside cause ≡ false
 NoObject _ = Unit {0}
 
 received_counts : (what : Received) (kind : ℕ) (s : RvState) (answer : Answer) (t : RvState) → NoObject what → ReceivedStep what kind s answer t → CountsIf (names_fault answer) s.random.faults t.random.faults

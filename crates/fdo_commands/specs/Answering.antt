@@ -8,7 +8,6 @@ use Rattle.fdo_msgs.specs.declared.answer.Answer.{Answer}
 use Rattle.fdo_msgs.specs.declared.answer.Answer.TheVariants as answers
 use Rattle.fdo_msgs.specs.declared.cause.Cause.{Cause}
 use Rattle.fdo_msgs.specs.declared.cause.Cause.TheVariants.{Outside}
-use Rattle.fdo_msgs.specs.declared.cause.Object.TheVariants.{Random}
 use Rattle.fdo_msgs.specs.declared.packet.Packet.{Packet}
 use Rattle.fdo_commands.specs.Line.{answer_line}
 use Rattle.fdo_commands.specs.declared.answers.Stop.{Stop}
@@ -17,14 +16,14 @@ use Rattle.fdo_commands.specs.declared.answers.Stop.TheVariants as stop
 abbrev pub answers_text : List Answer → List ℕ
 answers_text all = flat_map answer_line all
 
--- the cause is a failed draw
-abbrev pub is_failed_draw : Cause → Bool
-is_failed_draw (Outside Random) = true
-is_failed_draw _ = false
+-- the cause is that an object of the outside failed
+abbrev pub is_outside : Cause → Bool
+is_outside (Outside _) = true
+is_outside _ = false
 
--- the answer says that the source of random draws failed
+-- the answer says that an object of the outside failed
 abbrev pub names_fault : Answer → Bool
-names_fault (answers.Refused _ cause) = is_failed_draw cause
+names_fault (answers.Refused _ cause) = is_outside cause
 names_fault _ = false
 
 abbrev pub any_fault : List Answer → Bool

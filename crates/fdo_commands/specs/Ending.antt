@@ -46,11 +46,11 @@ GivesUpAt Steps GivesUp s lines t = (packet : Packet) × (more : List ℕ) × (l
 
 -- what a command does with the bytes of its input
 abbrev pub AnswersBytes : {S : Type 0} → (S → Packet → Answer → S → Type 0) → (S → Packet → S → Type 0) → S → S → List ℕ → Option (List ℕ) → ℕ → Option (List ℕ) → ℕ → Status → Type 0
--- all messages are answered, and the source of random draws never failed
+-- all messages are answered, and no object of the outside failed
 AnswersBytes Steps GivesUp s t bytes written faults written' faults' status.Done =
     (packets : List Packet) × (answers : List Answer) × Answered Steps s t bytes packets answers
     × (any_fault answers ≡ false) × Wrote written faults written' faults' (answers_text answers)
--- the same, but it failed
+-- the same, but one failed
 AnswersBytes Steps GivesUp s t bytes written faults written' faults' status.Random =
     (packets : List Packet) × (answers : List Answer) × Answered Steps s t bytes packets answers
     × (any_fault answers ≡ true) × EndsWith (grown written (answers_text answers)) faults written' faults' (codes "fault random\n")

@@ -3,7 +3,7 @@ ghost use Rattle.fdo_commands.specs.Answering.{AnswersAll, AnswersOne, StopCount
 ghost use Rattle.fdo_commands.specs.Line.{answer_line, packet_line, token_word};
 
 use cbor_core::NoMemory;
-use fdo_msgs::{Answer, Cause, Handler, Object, Packet, Token};
+use fdo_msgs::{Answer, Cause, Handler, Packet, Token};
 use fdo_ports::{Sink, write_all};
 use itoa::Buffer;
 use std::alloc::Global;
@@ -15,7 +15,7 @@ pub(crate) enum Stop {
     NoMemory,
 }
 
-/// Answers the messages one after another, a line each, and says whether the source of random draws failed meanwhile.
+/// Answers the messages one after another, a line each, and says whether an object of the outside failed meanwhile.
 pub(crate) fn answer_all<H: Handler, O: Sink>(
     alloc: Global,
     handler: &mut H,
@@ -47,7 +47,7 @@ fn either(one: bool, other: bool) -> bool
     one || other
 }
 
-/// Answers one message, and says whether the source of random draws failed.
+/// Answers one message, and says whether an object of the outside failed.
 fn answer_one<H: Handler, O: Sink>(
     alloc: Global,
     handler: &mut H,
@@ -81,7 +81,7 @@ fn is_fault(answer: &Answer) -> bool
     match answer {
         Answer::Refused {
             reply: _,
-            cause: Cause::Outside(Object::Random),
+            cause: Cause::Outside(_),
         } => true,
         _ => false,
     }
