@@ -14,6 +14,12 @@ An array of another length, and a map that lacks a label, have the place of thei
 that of its head. Any well-formed spelling is read. Types whose bodies are not read have the place 0.
 """
 
+import sys
+from pathlib import Path
+
+sys.path.insert(0, str(Path(__file__).resolve().parents[2] / "cbor_lines" / "lines"))
+from make import shortest
+
 
 class Fault(Exception):
     def __init__(self, place):
@@ -109,14 +115,6 @@ class Reader:
             seen.add(encode(key))
             pairs.append((key, self.item(depth)))
         return pairs
-
-
-def shortest(major, n):
-    if n < 24:
-        return bytes([32 * major + n])
-    for info, width in ((24, 1), (25, 2), (26, 4), (27, 8)):
-        if n < 1 << (8 * width):
-            return bytes([32 * major + info]) + n.to_bytes(width, "big")
 
 
 def encode(part):

@@ -18,17 +18,12 @@ The rules (FIDO Device Onboard 1.1, "Public Key", "Hash / HMac" and "SigInfo"; R
 - Signature information is [number, bytes].
 """
 import sys
+from pathlib import Path
+
+sys.path.insert(0, str(Path(__file__).resolve().parents[2] / 'cbor_lines' / 'lines'))
+from make import shortest as head
 
 # An item is (name, value): uint, nint (the n of -1 - n), bytes, text, array, map (pairs), tag (number, item), simple.
-
-
-def head(major, n):
-    for low, size in ((24, 1), (25, 2), (26, 4), (27, 8)):
-        if n < 24:
-            return bytes([32 * major + n])
-        if n < 256 ** size:
-            return bytes([32 * major + low]) + n.to_bytes(size, 'big')
-    raise ValueError(n)
 
 
 def spell(item):
