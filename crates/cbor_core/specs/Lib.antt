@@ -4,8 +4,10 @@ pub mod Deterministic
 pub mod Head
 pub mod Keys
 pub mod Norm
+pub mod Numbers
 pub mod Parts
 pub mod Passing
 pub mod Reading
+pub mod Shapes
 pub mod Spots
 pub mod Spelling

@@ -122,6 +122,13 @@ impl<'a> Part<'a> {
         }
     }
 
+    /// The places inside are those of the item's parts.
+    pub(crate) fn parts_say(&self)
+        ensures { map spot_item (spot_parts self.now.spot) ≡ inner (spot_item self.now.spot) }
+    {
+        let _place = self.cursor.at();
+    }
+
     /// The next element, key or value in the same array or map. None exactly at the last, and at the outermost item.
     pub fn after(&self) -> Option<Part<'a>>
         ensures { result ≡ first_of self.now.later }

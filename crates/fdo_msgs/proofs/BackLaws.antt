@@ -15,7 +15,7 @@ use Rattle.cbor_core.proofs.Loose.{loosely}
 use Rattle.hash_hmac.specs.declared.hash.Hash.{Hash}
 use Rattle.key_codec.specs.Hash.{item_of_hash}
 use Rattle.key_codec.specs.Key.{body_in, item_of_body, form_of_body}
-use Rattle.key_codec.specs.Numbers.{item_of_integer}
+use Rattle.cbor_core.specs.Numbers.{item_of_integer}
 use Rattle.key_codec.proofs.Back.{integer_back, type_fits, encoding_fits, body_back}
 use Rattle.key_codec.proofs.HashLaws.{hash_back}
 use Rattle.key_codec.proofs.SigLaws.{sig_info_back}
@@ -28,7 +28,8 @@ use Rattle.fdo_msgs.specs.declared.msg.Msg.{Msg}
 use Rattle.fdo_msgs.specs.declared.msg.Msg.TheVariants as msg
 use Rattle.fdo_msgs.specs.declared.shape.Shape.{Shape}
 use Rattle.fdo_msgs.specs.declared.shape.Shape.TheVariants as shape
-use Rattle.fdo_msgs.specs.Field.{up_to, of_length, null, is_null, mfg_in, field_in, item_of_field, item_of_mfg}
+use Rattle.fdo_msgs.specs.Field.{up_to, mfg_in, field_in, item_of_field, item_of_mfg}
+use Rattle.cbor_core.specs.Shapes.{of_length, null, is_null}
 use Rattle.fdo_msgs.specs.Fit.{IsMfg, IsField, AreFields, IsMsg, norm_msg}
 use Rattle.fdo_msgs.specs.Row.{shapes_of}
 use Rattle.fdo_msgs.specs.Said.{kind_of, fields_of, message_of, said_none, said_one, said_two, said_five, said_six}

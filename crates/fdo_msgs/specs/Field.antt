@@ -4,24 +4,17 @@ use Rattle.cbor_core.specs.declared.item.Item.{Item, out-Item}
 use Rattle.cbor_core.specs.declared.item.Item.TheOpen.{Item-F}
 use Rattle.cbor_core.specs.declared.item.Item.TheVariants as items
 use Rattle.cbor_core.specs.Spots.{bytes_in, text_in}
+use Rattle.cbor_core.specs.Shapes.{null, is_null, of_length}
 use Rattle.key_codec.specs.declared.fault.KeyFault.{KeyFault}
 use Rattle.key_codec.specs.Hash.{hash_in, item_of_hash}
 use Rattle.key_codec.specs.Key.{is_key_type, body_in, item_of_body}
-use Rattle.key_codec.specs.Numbers.{integer_in, item_of_integer}
+use Rattle.cbor_core.specs.Numbers.{integer_in, item_of_integer}
 use Rattle.key_codec.specs.SigInfo.{sig_info_in, item_of_sig_info}
 use Rattle.fdo_msgs.specs.declared.field.Field.{Field}
 use Rattle.fdo_msgs.specs.declared.field.Field.TheVariants as field
 use Rattle.fdo_msgs.specs.declared.msg.MfgInfo.{MfgInfo}
 use Rattle.fdo_msgs.specs.declared.shape.Shape.{Shape}
 use Rattle.fdo_msgs.specs.declared.shape.Shape.TheVariants as shape
-
--- null (RFC 8949, section 3.3)
-abbrev pub null : Item
-null = items.Simple 22
-
-abbrev pub is_null : Item-F Item → Bool
-is_null (Item-F.Simple n) = n == 22
-is_null _ = false
 
 -- ---- reading
 
@@ -39,9 +32,6 @@ None >>= f = None
 abbrev pub up_to : ℕ → Item-F Item → Option ℕ
 up_to most (Item-F.Uint n) = if nat_le n most then Some n else None
 up_to most _ = None
-
-abbrev pub of_length : ℕ → List ℕ → Option (List ℕ)
-of_length n bytes = if length bytes == n then Some bytes else None
 
 -- an array of five
 abbrev pub five_in : Item-F Item → Option (Item × Item × Item × Item × Item)

@@ -4,7 +4,7 @@ use Rattle.cbor_core.specs.Norm.{norm, IsFitWithin}
 use Rattle.hash_hmac.specs.declared.hash.Hash.{Hash}
 use Rattle.hash_hmac.specs.Value.{IsConsistent}
 use Rattle.key_codec.specs.Key.{is_key_type, form_of, form_of_body, IsBody as IsKeyBody}
-use Rattle.key_codec.specs.Numbers.{IsI64}
+use Rattle.cbor_core.specs.Numbers.{IsI64}
 use Rattle.fdo_msgs.specs.declared.field.Field.{Field}
 use Rattle.fdo_msgs.specs.declared.field.Field.TheVariants as field
 use Rattle.fdo_msgs.specs.declared.msg.MfgInfo.{MfgInfo}

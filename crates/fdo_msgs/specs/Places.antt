@@ -3,18 +3,12 @@ use Rattle.std.specs.Prelude.{ℕ, ℤ, List, [], ◌∷◌, Bool, false, Option
 use Rattle.cbor_core.specs.declared.item.Item.{out-Item}
 use Rattle.cbor_core.specs.Spots.{Spot, spot_item, spot_parts, text_in}
 use Rattle.key_codec.specs.Key.{form_of}
-use Rattle.key_codec.specs.Numbers.{integer_in}
-use Rattle.key_codec.specs.Places.{is_array, is_type, encoded_place, hash_place, sig_info_place}
+use Rattle.cbor_core.specs.Numbers.{integer_in}
+use Rattle.key_codec.specs.Places.{is_type, encoded_place, hash_place, sig_info_place}
+use Rattle.cbor_core.specs.Shapes.{is_array}
+use Rattle.cbor_core.specs.Shapes.{five_spots}
 use Rattle.fdo_msgs.specs.declared.shape.Shape.{Shape}
 use Rattle.fdo_msgs.specs.declared.shape.Shape.TheVariants as shape
-
-abbrev pub five_of : List Spot → Option (Spot × Spot × Spot × Spot × Spot)
-five_of (a ∷ b ∷ c ∷ d ∷ e ∷ []) = Some (a, b, c, d, e)
-five_of _ = None
-
--- the parts of an array of five
-abbrev pub five_spots : Spot → Option (Spot × Spot × Spot × Spot × Spot)
-five_spots s = if is_array (out-Item (spot_item s)) then five_of (spot_parts s) else None
 
 abbrev pub is_encoding : Option ℤ → Bool
 is_encoding None = false

@@ -2,7 +2,7 @@
 use Rattle.std.specs.Prelude.{ℕ, List, Option, unwrap_or}
 use Rattle.cbor_core.specs.declared.item.Item.TheVariants as item
 use Rattle.fdo_msgs.specs.Body.{body_of}
-use Rattle.fdo_msgs.specs.Field.{null}
+use Rattle.cbor_core.specs.Shapes.{null}
 use Rattle.fdo_msgs.specs.Cause.{code_of, text_of}
 use Rattle.fdo_msgs.specs.declared.cause.Cause.{Cause}
 use Rattle.fdo_msgs.specs.declared.msg.Msg.TheVariants.{Error}

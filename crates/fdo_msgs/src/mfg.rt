@@ -3,8 +3,8 @@ ghost use Rattle.cbor_core.specs.declared.item.Item.{out-Item};
 ghost use Rattle.fdo_msgs.specs.Field.{five_in, mfg_in, ok_of};
 
 use crate::msg::MfgInfo;
-use cbor_core::{Item, NoMemory};
-use key_codec::{KeyFault, integer, is_key_type, read_key_body};
+use cbor_core::{Item, NoMemory, integer};
+use key_codec::{KeyFault, is_key_type, read_key_body};
 use std::alloc::Global;
 
 /// What a device says of itself, or None where the item is not of that form.

@@ -2,15 +2,16 @@ ghost use Rattle.std.specs.Prelude.{◌≡◌, IfOk};
 ghost use Rattle.cbor_core.specs.declared.item.Item.{out-Item};
 ghost use Rattle.cbor_core.specs.Spots.{spot_item};
 ghost use Rattle.fdo_msgs.specs.declared.shape.Shape.TheVariants as shapes;
-ghost use Rattle.fdo_msgs.specs.Field.{up_to as number_up_to, is_null as is_null_item, field_in, ok_of};
+ghost use Rattle.fdo_msgs.specs.Field.{up_to as number_up_to, field_in, ok_of};
+ghost use Rattle.cbor_core.specs.Shapes.{is_null as is_null_item};
 ghost use Rattle.key_codec.specs.Hash.{hash_in};
 
 use crate::field::Field;
 use crate::mfg::read_mfg;
 use crate::shape::Shape;
-use cbor_core::{NoMemory, Part};
+use cbor_core::{NoMemory, Part, exactly};
 use hash_hmac::Hash;
-use key_codec::{KeyFault, integer_at, read_hash, read_sig_info};
+use key_codec::{KeyFault, read_hash, read_sig_info};
 use std::alloc::Global;
 
 /// The value of a part of a shape, or None where the part is not of it.
@@ -46,15 +47,6 @@ fn up_to(part: &Part, most: u64) -> Option<u64>
     match (part.major(), part.number()) {
         (0, Some(n)) if n <= most => Some(n),
         _ => None,
-    }
-}
-
-fn is_null(part: &Part) -> bool
-    ensures { result ≡ is_null_item (out-Item (spot_item part.now.spot)) }
-{
-    match (part.major(), part.number()) {
-        (7, Some(n)) => n == 22,
-        _ => false,
     }
 }
 
@@ -97,7 +89,7 @@ fn read_u64(part: &Part) -> Option<Field>
 fn read_i64(part: &Part) -> Option<Field>
     ensures { result ≡ field_in shapes.I64 (spot_item part.now.spot) }
 {
-    match integer_at(part) {
+    match part.integer() {
         Some(n) => Some(Field::I64(n)),
         None => None,
     }
@@ -131,18 +123,16 @@ fn read_sixteen(alloc: Global, part: &Part) -> Result<Option<Field>, NoMemory>
 }
 
 ghost use Rattle.std.specs.Prelude.{option_map};
-ghost use Rattle.fdo_msgs.specs.Field.{of_length};
+ghost use Rattle.cbor_core.specs.Shapes.{of_length};
 ghost use Rattle.fdo_msgs.specs.declared.field.Field.TheVariants as fields;
 
 fn sixteen(bytes: &[u8]) -> Option<Field>
     ensures { result ≡ option_map fields.Sixteen (of_length 16 bytes.now) }
 {
-    if bytes.len() != 16 {
-        return None;
+    match exactly::<16>(bytes) {
+        Some(all) => Some(Field::Sixteen(all)),
+        None => None,
     }
-    let mut all = [0u8; 16];
-    all.copy_from_slice(bytes);
-    Some(Field::Sixteen(all))
 }
 
 fn read_sig(alloc: Global, part: &Part) -> Result<Option<Field>, NoMemory>
@@ -179,7 +169,7 @@ fn read_digest(alloc: Global, part: &Part) -> Result<Option<Field>, NoMemory>
 fn read_maybe_digest(alloc: Global, part: &Part) -> Result<Option<Field>, NoMemory>
     ensures { IfOk result (λ field. field ≡ field_in shapes.MaybeHash (spot_item part.now.spot)) }
 {
-    if is_null(part) {
+    if part.is_null() {
         return Ok(Some(Field::MaybeHash(None)));
     }
     match hash_at(alloc, part)? {
@@ -191,7 +181,7 @@ fn read_maybe_digest(alloc: Global, part: &Part) -> Result<Option<Field>, NoMemo
 fn read_maybe_size(part: &Part) -> Option<Field>
     ensures { result ≡ field_in shapes.MaybeSize (spot_item part.now.spot) }
 {
-    if is_null(part) {
+    if part.is_null() {
         return Some(Field::MaybeSize(None));
     }
     match up_to(part, 65_535) {

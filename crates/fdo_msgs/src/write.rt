@@ -8,8 +8,8 @@ ghost use Rattle.fdo_msgs.specs.Said.{kind_of};
 use crate::field::Field;
 use crate::message::fields;
 use crate::msg::{MfgInfo, Msg};
-use cbor_core::{Blob, Item, Items, NoMemory, write_det};
-use key_codec::{hash_item, integer_item, key_body_item, sig_info_item};
+use cbor_core::{Blob, Item, Items, NoMemory, integer_item, write_det};
+use key_codec::{hash_item, key_body_item, sig_info_item};
 use std::alloc::Global;
 
 /// The body of a message, in the deterministic encoding.

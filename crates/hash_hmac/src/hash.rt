@@ -21,8 +21,9 @@ pub type HMac = Hash;
 impl Hash {
     ghost use Rattle.hash_hmac.specs.Value.{hash_value};
 
-    /// The hash of a kind with these bytes.
-    pub(crate) fn filled(kind: i64, bytes: &[u8]) -> Hash
+    /// The value of a kind with these bytes, of which there are at most 48. It is consistent where they are as many as
+    /// the kind has.
+    pub fn filled(kind: i64, bytes: &[u8]) -> Hash
         requires { length bytes.now ≤ 48 }
         ensures { result ≡ hash_value kind bytes.now }
     {

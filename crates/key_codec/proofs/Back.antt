@@ -14,8 +14,10 @@ use Rattle.key_codec.specs.declared.key.KeyBody.{KeyBody}
 use Rattle.key_codec.specs.declared.key.KeyBody.TheVariants as body
 use Rattle.key_codec.specs.declared.key.PublicKey.{PublicKey}
 use Rattle.key_codec.specs.Fault.{◌>>=◌, shaped}
-use Rattle.key_codec.specs.Numbers.{integer_layer, integer_in, item_of_integer, IsI64}
-use Rattle.key_codec.specs.Parts.{array_layer, pair_of, triple_of, two_in, three_in, bytes_layer, bytes_in, number_in, all_bytes, pairs_layer}
+use Rattle.cbor_core.specs.Numbers.{integer_layer, integer_in, item_of_integer, IsI64}
+use Rattle.key_codec.specs.Parts.{two_in, three_in, bytes_in, number_in, all_bytes}
+use Rattle.cbor_core.specs.Spots.{bytes_in as bytes_layer}
+use Rattle.cbor_core.specs.Shapes.{array_layer, two_of, three_of, pairs_layer}
 use Rattle.key_codec.specs.Key.{key_types, is_key_type, form_of, form_of_body, chain_of, chain_layer, chain_in, cose_of, cose_in, body_of_form, body_in, key_in, is_curve, item_of_cose, item_of_body, item_of_key, IsBody, IsKey}
 
 -- ---- parts
@@ -31,10 +33,10 @@ pub bytes_back : (b : List ℕ) → bytes_in (items.Bytes b) ≡ Ok b
 bytes_back b = ap (λ f. shaped (bytes_layer f)) (items.outs-Bytes b)
 
 pub two_back : (a b : Item) → two_in (items.Array (a ∷ b ∷ [])) ≡ Ok (a, b)
-two_back a b = ap (λ f. shaped (option_and_then pair_of (array_layer f))) (items.outs-Array (a ∷ b ∷ []))
+two_back a b = ap (λ f. shaped (option_and_then two_of (array_layer f))) (items.outs-Array (a ∷ b ∷ []))
 
 pub three_back : (a b c : Item) → three_in (items.Array (a ∷ b ∷ c ∷ [])) ≡ Ok (a, b, c)
-three_back a b c = ap (λ f. shaped (option_and_then triple_of (array_layer f))) (items.outs-Array (a ∷ b ∷ c ∷ []))
+three_back a b c = ap (λ f. shaped (option_and_then three_of (array_layer f))) (items.outs-Array (a ∷ b ∷ c ∷ []))
 
 -- ---- numbers of 64 bits with a sign
 

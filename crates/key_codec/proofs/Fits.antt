@@ -15,8 +15,8 @@ use Rattle.key_codec.specs.declared.key.KeyBody.TheVariants as body
 use Rattle.key_codec.specs.declared.key.PublicKey.{PublicKey}
 use Rattle.key_codec.specs.declared.sig_info.SigInfo.{SigInfo}
 use Rattle.key_codec.specs.Fault.{Says}
-use Rattle.key_codec.specs.Numbers.{integer_in, item_of_integer, IsI64}
-use Rattle.key_codec.specs.Parts.{is_number, labelled}
+use Rattle.cbor_core.specs.Numbers.{integer_in, item_of_integer, IsI64}
+use Rattle.cbor_core.specs.Shapes.{is_number, labelled}
 use Rattle.key_codec.specs.Key.{body_in, key_in, item_of_body, item_of_key, IsCoseMap, IsBodyItem, IsKeyItem}
 use Rattle.key_codec.specs.Hash.{item_of_hash}
 use Rattle.key_codec.specs.SigInfo.{sig_info_in, item_of_sig_info}

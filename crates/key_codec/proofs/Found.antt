@@ -14,7 +14,8 @@ use Rattle.key_codec.specs.declared.key.KeyBody.{KeyBody}
 use Rattle.key_codec.specs.declared.key.KeyBody.TheVariants as body
 use Rattle.key_codec.specs.declared.key.PublicKey.{PublicKey}
 use Rattle.key_codec.specs.Fault.{◌>>=◌, shaped}
-use Rattle.key_codec.specs.Parts.{three_in, bytes_in, number_in, all_bytes, pairs_layer, number_at, bytes_at}
+use Rattle.key_codec.specs.Parts.{three_in, bytes_in, number_in, all_bytes, number_at, bytes_at}
+use Rattle.cbor_core.specs.Shapes.{pairs_layer}
 use Rattle.key_codec.specs.Key.{is_key_type, form_of, form_of_body, chain_of, chain_layer, chain_in, cose_of, cose_in, body_of_form, body_if_known, body_in, key_of, key_in, is_curve, IsBody, IsKey}
 use Rattle.key_codec.proofs.Binds.{bind_ok, ok_is}
 

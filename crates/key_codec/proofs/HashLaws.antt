@@ -12,7 +12,7 @@ use Rattle.hash_hmac.specs.Value.{content, hash_value, IsConsistent}
 use Rattle.key_codec.specs.declared.fault.KeyFault.{KeyFault}
 use Rattle.key_codec.specs.declared.fault.KeyFault.TheVariants as fault
 use Rattle.key_codec.specs.Fault.{◌>>=◌, shaped}
-use Rattle.key_codec.specs.Numbers.{item_of_integer, IsI64}
+use Rattle.cbor_core.specs.Numbers.{item_of_integer, IsI64}
 use Rattle.key_codec.specs.Parts.{two_in, bytes_in, number_in}
 use Rattle.key_codec.specs.Hash.{hash_if_known, hash_by_kind, hash_in, item_of_hash}
 use Rattle.key_codec.proofs.Binds.{bind_ok, ok_is, some_is}

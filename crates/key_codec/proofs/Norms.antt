@@ -15,7 +15,7 @@ use Rattle.key_codec.specs.declared.key.KeyBody.TheVariants as body
 use Rattle.key_codec.specs.declared.key.PublicKey.{PublicKey}
 use Rattle.key_codec.specs.declared.sig_info.SigInfo.{SigInfo}
 use Rattle.hash_hmac.specs.Value.{content}
-use Rattle.key_codec.specs.Numbers.{item_of_integer}
+use Rattle.cbor_core.specs.Numbers.{item_of_integer}
 use Rattle.key_codec.specs.Key.{item_of_cose, item_of_body, item_of_key}
 use Rattle.key_codec.specs.Hash.{item_of_hash}
 use Rattle.key_codec.specs.SigInfo.{item_of_sig_info}

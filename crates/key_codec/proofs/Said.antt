@@ -12,8 +12,10 @@ use Rattle.key_codec.specs.declared.key.KeyBody.{KeyBody}
 use Rattle.key_codec.specs.declared.key.KeyBody.TheVariants as body
 use Rattle.key_codec.specs.declared.key.PublicKey.{PublicKey}
 use Rattle.key_codec.specs.Fault.{◌>>=◌, shaped, Says}
-use Rattle.key_codec.specs.Numbers.{within_i64, integer_layer, integer_in, item_of_integer}
-use Rattle.key_codec.specs.Parts.{array_layer, pair_of, triple_of, two_in, three_in, bytes_layer, bytes_in, number_in, all_bytes, labelled, pairs_layer, number_at, bytes_at}
+use Rattle.cbor_core.specs.Numbers.{within_i64, integer_layer, integer_in, item_of_integer}
+use Rattle.key_codec.specs.Parts.{two_in, three_in, bytes_in, number_in, all_bytes, number_at, bytes_at}
+use Rattle.cbor_core.specs.Spots.{bytes_in as bytes_layer}
+use Rattle.cbor_core.specs.Shapes.{array_layer, two_of, three_of, labelled, pairs_layer}
 use Rattle.key_codec.specs.Key.{form_of, form_of_body, chain_of, chain_layer, chain_in, cose_of, cose_in, body_of_form, body_if_known, body_in, key_in, is_curve, IsBody, IsCoseMap, IsBodyItem, IsKeyItem}
 use Rattle.key_codec.proofs.Back.{number_back, bytes_back, three_back, chain_back, type_fits, encoding_fits, curve_fits}
 use Rattle.key_codec.proofs.Binds.{bind_ok, shaped_ok, ok_is, some_is}
@@ -82,13 +84,13 @@ then_ok : {A B : Type 0} (f : A → Option B) (o : Option A) (y : B) → option_
 then_ok f None y e = absurd cc
 then_ok f (Some x) y e = (x, (refl, e))
 
-pair_is : (xs : List Item) (p : Item × Item) → pair_of xs ≡ Some p → xs ≡ p.0 ∷ p.1 ∷ []
+pair_is : (xs : List Item) (p : Item × Item) → two_of xs ≡ Some p → xs ≡ p.0 ∷ p.1 ∷ []
 pair_is [] p e = absurd cc
 pair_is (a ∷ []) p e = absurd cc
 pair_is (a ∷ b ∷ []) p e = ap (λ (q : Item × Item). q.0 ∷ q.1 ∷ []) (some_is (a, b) p e)
 pair_is (a ∷ b ∷ c ∷ xs) p e = absurd cc
 
-triple_is : (xs : List Item) (p : Item × Item × Item) → triple_of xs ≡ Some p → xs ≡ p.0 ∷ p.1 ∷ p.2 ∷ []
+triple_is : (xs : List Item) (p : Item × Item × Item) → three_of xs ≡ Some p → xs ≡ p.0 ∷ p.1 ∷ p.2 ∷ []
 triple_is [] p e = absurd cc
 triple_is (a ∷ []) p e = absurd cc
 triple_is (a ∷ b ∷ []) p e = absurd cc
@@ -98,13 +100,13 @@ triple_is (a ∷ b ∷ c ∷ d ∷ xs) p e = absurd cc
 pub two_said : (item : Item) (p : Item × Item) → two_in item ≡ Ok p → item ≡ items.Array (p.0 ∷ p.1 ∷ [])
 two_said item p e =
     let o = array_layer (out-Item item) in
-    let t = then_ok pair_of o p (shaped_ok (option_and_then pair_of o) p e) in
+    let t = then_ok two_of o p (shaped_ok (option_and_then two_of o) p e) in
     by_layer item (items.Array (p.0 ∷ p.1 ∷ [])) (layer_array (out-Item item) t.0 t.1.0 ∙ ap items.Array (pair_is t.0 p t.1.1))
 
 pub three_said : (item : Item) (p : Item × Item × Item) → three_in item ≡ Ok p → item ≡ items.Array (p.0 ∷ p.1 ∷ p.2 ∷ [])
 three_said item p e =
     let o = array_layer (out-Item item) in
-    let t = then_ok triple_of o p (shaped_ok (option_and_then triple_of o) p e) in
+    let t = then_ok three_of o p (shaped_ok (option_and_then three_of o) p e) in
     by_layer item (items.Array (p.0 ∷ p.1 ∷ p.2 ∷ [])) (layer_array (out-Item item) t.0 t.1.0 ∙ ap items.Array (triple_is t.0 p t.1.1))
 
 pub pair_item : (a b c d : Item) → a ≡ b → c ≡ d → items.Array (a ∷ c ∷ []) ≡ items.Array (b ∷ d ∷ [])

@@ -9,7 +9,7 @@ use Rattle.key_codec.specs.Fault.{◌>>=◌, Says}
 use Rattle.key_codec.specs.Parts.{two_in, bytes_in, number_in}
 use Rattle.key_codec.proofs.Binds.{bind_ok, ok_is}
 use Rattle.key_codec.proofs.Said.{two_said, number_said, bytes_said, pair_item, says_as}
-use Rattle.key_codec.specs.Numbers.{item_of_integer, IsI64}
+use Rattle.cbor_core.specs.Numbers.{item_of_integer, IsI64}
 use Rattle.key_codec.specs.SigInfo.{sig_info_in, item_of_sig_info}
 use Rattle.key_codec.proofs.Back.{number_back, bytes_back, two_back}
 

@@ -8,7 +8,7 @@ use Rattle.hash_hmac.specs.Value.{content, hash_value}
 use Rattle.key_codec.specs.declared.fault.KeyFault.{KeyFault}
 use Rattle.key_codec.specs.declared.fault.KeyFault.TheVariants as fault
 use Rattle.key_codec.specs.Fault.{◌>>=◌}
-use Rattle.key_codec.specs.Numbers.{item_of_integer}
+use Rattle.cbor_core.specs.Numbers.{item_of_integer}
 use Rattle.key_codec.specs.Parts.{two_in, bytes_in, number_in}
 
 -- bytes of a kind, whose length is known or not

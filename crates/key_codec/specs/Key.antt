@@ -14,8 +14,9 @@ use Rattle.key_codec.specs.declared.key.KeyBody.{KeyBody}
 use Rattle.key_codec.specs.declared.key.KeyBody.TheVariants as body
 use Rattle.key_codec.specs.declared.key.PublicKey.{PublicKey}
 use Rattle.key_codec.specs.Fault.{◌>>=◌, shaped}
-use Rattle.key_codec.specs.Numbers.{item_of_integer}
-use Rattle.key_codec.specs.Parts.{three_in, bytes_in, number_in, all_bytes, labelled, pairs_layer, number_at, bytes_at}
+use Rattle.cbor_core.specs.Numbers.{item_of_integer}
+use Rattle.key_codec.specs.Parts.{three_in, bytes_in, number_in, all_bytes, number_at, bytes_at}
+use Rattle.cbor_core.specs.Shapes.{labelled, pairs_layer}
 
 -- ---- types
 

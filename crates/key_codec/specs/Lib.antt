@@ -1,7 +1,6 @@
 pub mod Fault
 pub mod Hash
 pub mod Key
-pub mod Numbers
 pub mod Parts
 pub mod Places
 pub mod SigInfo

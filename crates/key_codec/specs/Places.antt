@@ -8,34 +8,12 @@ use Rattle.cbor_core.specs.Spots.{Spot, spot_item, spot_parts, bytes_in}
 use Rattle.hash_hmac.specs.Kind.{length_of}
 use Rattle.key_codec.specs.declared.encoding.Form.{Form}
 use Rattle.key_codec.specs.declared.encoding.Form.TheVariants as form
+use Rattle.cbor_core.specs.Shapes.{is_array, is_map, two_spots, three_spots}
 use Rattle.key_codec.specs.Key.{is_key_type, is_curve, form_of}
-use Rattle.key_codec.specs.Numbers.{integer_in}
-use Rattle.key_codec.specs.Parts.{is_number}
+use Rattle.cbor_core.specs.Numbers.{integer_in}
+use Rattle.cbor_core.specs.Shapes.{is_number}
 
 -- ---- parts
-
-abbrev pub is_array : Item-F Item → Bool
-is_array (Item-F.Array xs) = true
-is_array _ = false
-
-abbrev pub is_map : Item-F Item → Bool
-is_map (Item-F.Map ps) = true
-is_map _ = false
-
-abbrev pub two_of : List Spot → Option (Spot × Spot)
-two_of (a ∷ b ∷ []) = Some (a, b)
-two_of _ = None
-
-abbrev pub three_of : List Spot → Option (Spot × Spot × Spot)
-three_of (a ∷ b ∷ c ∷ []) = Some (a, b, c)
-three_of _ = None
-
--- the parts of an array of two, and of one of three
-abbrev pub two_spots : Spot → Option (Spot × Spot)
-two_spots s = if is_array (out-Item (spot_item s)) then two_of (spot_parts s) else None
-
-abbrev pub three_spots : Spot → Option (Spot × Spot × Spot)
-three_spots s = if is_array (out-Item (spot_item s)) then three_of (spot_parts s) else None
 
 abbrev pub is_integer : Spot → Bool
 is_integer s = is_some (integer_in (spot_item s))

@@ -5,7 +5,7 @@ use Rattle.cbor_core.specs.declared.item.Item.TheVariants as items
 use Rattle.key_codec.specs.declared.fault.KeyFault.{KeyFault}
 use Rattle.key_codec.specs.declared.sig_info.SigInfo.{SigInfo}
 use Rattle.key_codec.specs.Fault.{◌>>=◌}
-use Rattle.key_codec.specs.Numbers.{item_of_integer}
+use Rattle.cbor_core.specs.Numbers.{item_of_integer}
 use Rattle.key_codec.specs.Parts.{two_in, bytes_in, number_in}
 
 -- the signature information that an item says

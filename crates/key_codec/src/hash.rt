@@ -6,9 +6,8 @@ ghost use Rattle.key_codec.specs.declared.fault.KeyFault.TheVariants.{NoMemory a
 ghost use Rattle.key_codec.specs.Hash.{hash_by_kind, hash_in, item_of_hash};
 
 use crate::fault::KeyFault;
-use crate::numbers::integer_item;
 use crate::parts::{bytes, number, two};
-use cbor_core::{Blob, Item, Items, NoMemory};
+use cbor_core::{Blob, Item, Items, NoMemory, integer_item};
 use hash_hmac::{Hash, length_of};
 use std::alloc::Global;
 
@@ -56,34 +55,13 @@ fn hash_by(kind: i64, bytes: &[u8]) -> Result<Hash, KeyFault>
     match length_of(kind) {
         Some(len) => {
             if bytes.len() == len as usize {
-                Ok(Hash {
-                    kind,
-                    len,
-                    bytes: filled(bytes),
-                })
+                Ok(Hash::filled(kind, bytes))
             } else {
                 Err(KeyFault::BadLength(bytes.len()))
             }
         }
         None => Err(KeyFault::BadType(kind)),
     }
-}
-
-/// The bytes, and zeros behind them.
-fn filled(bytes: &[u8]) -> [u8; 48]
-    requires { length bytes.now ≤ 48 }
-    ensures { result ≡ padded 48 bytes.now }
-{
-    let mut all = [0u8; 48];
-    put_front(&mut all, bytes);
-    all
-}
-
-fn put_front(into: &mut [u8], bytes: &[u8])
-    requires { length bytes.now ≤ length into.old }
-    ensures { into.new ≡ bytes.now ++ drop (length bytes.now) into.old }
-{
-    into[..bytes.len()].copy_from_slice(bytes);
 }
 
 /// The bytes of a hash.

@@ -7,7 +7,7 @@ ghost use Rattle.hash_hmac.specs.declared.hash.Hash.{Hash};
 ghost use Rattle.hash_hmac.specs.Value.{IsConsistent};
 ghost use Rattle.key_codec.specs.declared.key.PublicKey.{PublicKey};
 ghost use Rattle.key_codec.specs.declared.sig_info.SigInfo.{SigInfo};
-ghost use Rattle.key_codec.specs.Numbers.{IsI64};
+ghost use Rattle.cbor_core.specs.Numbers.{IsI64};
 ghost use Rattle.key_codec.specs.Key.{key_in, item_of_key, IsKey};
 ghost use Rattle.key_codec.specs.Hash.{hash_in, item_of_hash};
 ghost use Rattle.key_codec.specs.SigInfo.{sig_info_in, item_of_sig_info};

@@ -8,7 +8,6 @@ pub mod hash;
 pub mod key;
 pub mod kind;
 pub mod laws;
-pub mod numbers;
 mod parts;
 pub mod places;
 pub mod read;
@@ -23,9 +22,8 @@ pub use key::{CoseKey, KeyBody, PublicKey};
 pub use kind::{
     HSS_LMS, LABORATORY, RSA2048RESTR, RSAPKCS, RSAPSS, SECP256R1, SECP384R1, is_key_type,
 };
-pub use numbers::{integer, integer_item};
 pub use places::{
-    find_encoded_fault, find_hash_fault, find_key_fault, find_sig_info_fault, integer_at,
+    find_encoded_fault, find_hash_fault, find_key_fault, find_sig_info_fault,
 };
 pub use read::{read_key, read_key_body};
 pub use sig_info::{SigInfo, read_sig_info, sig_info_item};

@@ -1,11 +1,11 @@
 ghost use Rattle.std.specs.Prelude.{◌≡◌, Ok, Err, MatchResult, MatchOption, Some, None};
 ghost use Rattle.key_codec.specs.Fault.{shaped};
-ghost use Rattle.key_codec.specs.Parts.{two_in, three_in, bytes_in, number_in, labelled, number_at, bytes_at, is_number};
-ghost use Rattle.key_codec.specs.Numbers.{integer_in};
+ghost use Rattle.key_codec.specs.Parts.{two_in, three_in, bytes_in, number_in, number_at, bytes_at};
+ghost use Rattle.cbor_core.specs.Shapes.{labelled, is_number};
+ghost use Rattle.cbor_core.specs.Numbers.{integer_in};
 
 use crate::fault::KeyFault;
-use crate::numbers::integer;
-use cbor_core::{Blob, Item};
+use cbor_core::{Blob, Item, integer};
 
 /// The items of an array of two.
 pub(crate) fn two(item: &Item) -> Result<(&Item, &Item), KeyFault>

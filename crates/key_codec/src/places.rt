@@ -3,24 +3,14 @@
 ghost use Rattle.std.specs.Prelude.{◌≡◌, option_map};
 ghost use Rattle.cbor_core.specs.declared.item.Item.{out-Item};
 ghost use Rattle.cbor_core.specs.Spots.{spot_item, spot_parts};
-ghost use Rattle.key_codec.specs.Numbers.{integer_in};
-ghost use Rattle.key_codec.specs.Places.{two_spots, three_spots, is_bytes as is_byte_string, is_kind as is_known_kind, sig_info_place, hash_place, chain_place, cose_place, form_place, body_place as place_of_body, encoded_place, is_type as is_known_type, key_place, has_label as has_a_label, has_labels as has_all_labels, is_whole as is_whole_map, fits_label as fits_a_label, fits_number as fits_a_number, first_unfit, is_one_curve};
+ghost use Rattle.cbor_core.specs.Numbers.{integer_in};
+ghost use Rattle.key_codec.specs.Places.{is_bytes as is_byte_string, is_kind as is_known_kind, sig_info_place, hash_place, chain_place, cose_place, form_place, body_place as place_of_body, encoded_place, is_type as is_known_type, key_place, has_label as has_a_label, has_labels as has_all_labels, is_whole as is_whole_map, fits_label as fits_a_label, fits_number as fits_a_number, first_unfit, is_one_curve};
+ghost use Rattle.cbor_core.specs.Shapes.{two_spots, three_spots};
 
 use crate::encoding::Form;
 use crate::kind::is_key_type;
 use cbor_core::Part;
 use hash_hmac::length_of;
-
-/// The number that a part is, where it is one of `i64`.
-pub fn integer_at(part: &Part) -> Option<i64>
-    ensures { result ≡ integer_in (spot_item part.now.spot) }
-{
-    match (part.major(), part.number()) {
-        (0, Some(n)) if n < 1 << 63 => Some(n as i64),
-        (1, Some(n)) if n < 1 << 63 => Some(-1 - (n as i64)),
-        _ => None,
-    }
-}
 
 fn is_bytes(part: &Part) -> bool
     ensures { result ≡ is_byte_string part.now.spot }
@@ -28,44 +18,13 @@ fn is_bytes(part: &Part) -> bool
     part.major() == 2
 }
 
-/// The parts of an array of two.
-pub fn two_parts<'a>(part: &Part<'a>) -> Option<(Part<'a>, Part<'a>)>
-    ensures { option_map (λ p. (p.0.spot, p.1.spot)) result ≡ two_spots part.now.spot }
-{
-    if part.major() != 4 {
-        return None;
-    }
-    let first = part.inside()?;
-    let second = first.after()?;
-    match second.after() {
-        None => Some((first, second)),
-        Some(_) => None,
-    }
-}
-
-/// The parts of an array of three.
-pub fn three_parts<'a>(part: &Part<'a>) -> Option<(Part<'a>, Part<'a>, Part<'a>)>
-    ensures { option_map (λ p. (p.0.spot, p.1.spot, p.2.spot)) result ≡ three_spots part.now.spot }
-{
-    if part.major() != 4 {
-        return None;
-    }
-    let first = part.inside()?;
-    let second = first.after()?;
-    let third = second.after()?;
-    match third.after() {
-        None => Some((first, second, third)),
-        Some(_) => None,
-    }
-}
-
 /// Where signature information is not of its form.
 #[tactic(auto, unfolding(crate::specs::Places::sig_info_place))]
 pub fn find_sig_info_fault(part: &Part) -> usize
     ensures { result ≡ sig_info_place part.now.spot }
 {
-    match two_parts(part) {
-        Some((number, info)) => match integer_at(&number) {
+    match part.two() {
+        Some((number, info)) => match number.integer() {
             Some(_) => info.at(),
             None => number.at(),
         },
@@ -78,7 +37,7 @@ pub fn find_sig_info_fault(part: &Part) -> usize
 pub fn find_hash_fault(part: &Part) -> usize
     ensures { result ≡ hash_place part.now.spot }
 {
-    match two_parts(part) {
+    match part.two() {
         Some((kind, bytes)) => {
             if is_kind(&kind) {
                 bytes.at()
@@ -93,7 +52,7 @@ pub fn find_hash_fault(part: &Part) -> usize
 fn is_kind(part: &Part) -> bool
     ensures { result ≡ is_known_kind (integer_in (spot_item part.now.spot)) }
 {
-    match integer_at(part) {
+    match part.integer() {
         Some(kind) => length_of(kind).is_some(),
         None => false,
     }
@@ -104,7 +63,7 @@ fn is_kind(part: &Part) -> bool
 pub fn find_key_fault(part: &Part) -> usize
     ensures { result ≡ key_place part.now.spot }
 {
-    match three_parts(part) {
+    match part.three() {
         Some((kind, enc, body)) => {
             if is_type(&kind) {
                 find_encoded_fault(&enc, &body)
@@ -120,7 +79,7 @@ pub fn find_key_fault(part: &Part) -> usize
 pub fn is_type(part: &Part) -> bool
     ensures { result ≡ is_known_type (integer_in (spot_item part.now.spot)) }
 {
-    match integer_at(part) {
+    match part.integer() {
         Some(kind) => is_key_type(kind),
         None => false,
     }
@@ -131,7 +90,7 @@ pub fn is_type(part: &Part) -> bool
 pub fn find_encoded_fault(enc: &Part, body: &Part) -> usize
     ensures { result ≡ encoded_place (integer_in (spot_item enc.now.spot)) enc.now.spot body.now.spot }
 {
-    match integer_at(enc) {
+    match enc.integer() {
         Some(number) => match Form::of(number) {
             Some(form) => find_form_fault(form, body),
             None => enc.at(),
@@ -155,7 +114,7 @@ fn find_form_fault(form: Form, body: &Part) -> usize
 fn find_chain_fault(body: &Part) -> usize
     ensures { result ≡ chain_place body.now.spot }
 {
-    if body.major() != 4 {
+    if !body.is_array() {
         return body.at();
     }
     let mut next = body.inside();
@@ -201,7 +160,7 @@ fn find_unfit(body: &Part) -> usize
 fn is_whole(map: &Part) -> bool
     ensures { result ≡ is_whole_map map.now.spot }
 {
-    map.major() == 5 && has_labels(map)
+    map.is_map() && has_labels(map)
 }
 
 fn has_labels(map: &Part) -> bool
@@ -218,7 +177,7 @@ fn has_label(map: &Part, label: i64) -> bool
         let Some(value) = key.after() else {
             return false;
         };
-        if integer_at(&key) == Some(label) {
+        if key.integer() == Some(label) {
             return true;
         }
         next = value.after();
@@ -229,7 +188,7 @@ fn has_label(map: &Part, label: i64) -> bool
 fn fits_label(key: &Part, value: &Part) -> bool
     ensures { result ≡ fits_a_label (integer_in (spot_item key.now.spot)) value.now.spot }
 {
-    match integer_at(key) {
+    match key.integer() {
         Some(label) => fits_number(label, value),
         None => true,
     }
@@ -239,7 +198,7 @@ fn fits_number(label: i64, value: &Part) -> bool
     ensures { result ≡ fits_a_number label value.now.spot }
 {
     match label {
-        1 => integer_at(value) == Some(2),
+        1 => value.integer() == Some(2),
         -1 => is_curve(value),
         -2 | -3 => is_bytes(value),
         _ => true,
@@ -249,5 +208,5 @@ fn fits_number(label: i64, value: &Part) -> bool
 fn is_curve(value: &Part) -> bool
     ensures { result ≡ is_one_curve (integer_in (spot_item value.now.spot)) }
 {
-    matches!(integer_at(value), Some(1 | 2))
+    matches!(value.integer(), Some(1 | 2))
 }

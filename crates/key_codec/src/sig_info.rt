@@ -2,13 +2,12 @@ ghost use Rattle.std.specs.Prelude.{◌≡◌, Ok, IfOk};
 ghost use Rattle.cbor_core.specs.Norm.{IsFit};
 ghost use Rattle.key_codec.specs.declared.sig_info.SigInfo.{SigInfo};
 ghost use Rattle.key_codec.specs.Fault.{Says};
-ghost use Rattle.key_codec.specs.Numbers.{IsI64};
+ghost use Rattle.cbor_core.specs.Numbers.{IsI64};
 ghost use Rattle.key_codec.specs.SigInfo.{sig_info_in, item_of_sig_info};
 
 use crate::fault::KeyFault;
-use crate::numbers::integer_item;
 use crate::parts::{bytes, number, two};
-use cbor_core::{Blob, Item, Items, NoMemory};
+use cbor_core::{Blob, Item, Items, NoMemory, integer_item};
 use std::alloc::Global;
 
 /// How a device signs (FIDO Device Onboard 1.1, "SigInfo").

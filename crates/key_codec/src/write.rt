@@ -5,8 +5,7 @@ ghost use Rattle.cbor_core.specs.Norm.{IsFit, IsReadBack};
 ghost use Rattle.key_codec.specs.Key.{item_of_key, item_of_body, item_of_cose};
 
 use crate::key::{CoseKey, KeyBody, PublicKey};
-use crate::numbers::integer_item;
-use cbor_core::{Blob, Item, Items, NoMemory, Pairs, write_det};
+use cbor_core::{Blob, Item, Items, NoMemory, Pairs, write_det, integer_item};
 use std::alloc::Global;
 
 /// The item that a key is written as.

@@ -1,5 +1,5 @@
 use Rattle.std.proofs.Common.{◌≡◌, drop}
-use Rattle.key_codec.specs.Parts.{labelled}
+use Rattle.cbor_core.specs.Shapes.{labelled}
 use Rattle.key_codec.proofs.parts.value_of.Given as goal
 
 abbrev pub invariant-loop-key : goal.invariant-loop-key

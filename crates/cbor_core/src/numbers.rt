@@ -1,7 +1,7 @@
 ghost use Rattle.std.specs.Prelude.{◌≡◌, pos};
-ghost use Rattle.key_codec.specs.Numbers.{integer_in, item_of_integer, within_i64};
+ghost use Rattle.cbor_core.specs.Numbers.{integer_in, item_of_integer, within_i64};
 
-use cbor_core::Item;
+use crate::item::Item;
 
 /// The number that an item is, where it is one of `i64`.
 pub fn integer(item: &Item) -> Option<i64>
