@@ -11,3 +11,4 @@ pub mod Reading
 pub mod Shapes
 pub mod Spots
 pub mod Spelling
+pub mod Whole
