@@ -43,8 +43,9 @@ fn copy_items(alloc: Global, items: &[Item]) -> Result<Items, NoMemory>
     Ok(all)
 }
 
+/// Equal pairs.
 #[cycle(copy)]
-fn copy_pairs(alloc: Global, pairs: &[(Item, Item)]) -> Result<Pairs, NoMemory>
+pub fn copy_pairs(alloc: Global, pairs: &[(Item, Item)]) -> Result<Pairs, NoMemory>
     ensures { IfOk result (λ all. all ≡ pairs.now) }
 {
     let mut all = Pairs::new(alloc);

@@ -23,6 +23,7 @@ pub mod text;
 pub mod write;
 
 pub use blob::Blob;
+pub use copy::copy_pairs;
 pub use cursor::Cursor;
 pub use fault::CborFault;
 pub use item::{Item, Items, Pairs};

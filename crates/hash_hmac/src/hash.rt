@@ -19,7 +19,7 @@ pub struct Hash {
 pub type HMac = Hash;
 
 impl Hash {
-    ghost use Rattle.hash_hmac.specs.Value.{hash_value};
+    ghost use Rattle.hash_hmac.specs.Value.{content as content_of, hash_value};
 
     /// The value of a kind with these bytes, of which there are at most 48. It is consistent where they are as many as
     /// the kind has.
@@ -32,6 +32,15 @@ impl Hash {
             kind,
             len: bytes.len() as u8,
             bytes: all,
+        }
+    }
+    /// Its bytes, as many as it has.
+    pub fn content(&self) -> &[u8]
+        ensures { result.now ≡ content_of self.now }
+    {
+        match self.bytes.get(..self.len as usize) {
+            Some(bytes) => bytes,
+            None => &self.bytes,
         }
     }
 }

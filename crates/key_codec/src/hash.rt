@@ -64,22 +64,12 @@ fn hash_by(kind: i64, bytes: &[u8]) -> Result<Hash, KeyFault>
     }
 }
 
-/// The bytes of a hash.
-fn content_of(hash: &Hash) -> &[u8]
-    ensures { result.now ≡ content hash.now }
-{
-    match hash.bytes.get(..hash.len as usize) {
-        Some(bytes) => bytes,
-        None => &hash.bytes,
-    }
-}
-
 /// The item that a hash is written as.
 pub fn hash_item(alloc: Global, hash: &Hash) -> Result<Item, NoMemory>
     ensures { IfOk result (λ item. item ≡ item_of_hash hash.now) }
 {
     let mut parts = Items::new(alloc);
     parts.push(integer_item(hash.kind))?;
-    parts.push(Item::Bytes(Blob::from_slice(alloc, content_of(hash))?))?;
+    parts.push(Item::Bytes(Blob::from_slice(alloc, hash.content())?))?;
     Ok(Item::Array(parts))
 }

@@ -1,0 +1,5 @@
+pub mod Envelope
+pub mod Fault
+pub mod Opening
+pub mod Places
+pub mod Text

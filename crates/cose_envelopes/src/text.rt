@@ -1,0 +1,43 @@
+ghost use Rattle.std.specs.Prelude.{◌≡◌, ◌≤◌, length, IfOk, OnOk};
+ghost use Rattle.cose_envelopes.specs.Text.{sign1_structure, mac0_structure, encrypt0_structure};
+
+use cbor_core::{Blob, Item, Items, NoMemory, Text, write_det};
+use std::alloc::Global;
+
+/// The text that a Sign1 signs (RFC 9052, section 4.4), over the protected header as received and without external data.
+#[tactic(auto, unfolding(crate::specs::Text::sign1_structure))]
+pub fn sign1_text(alloc: Global, protected: &[u8], payload: &[u8]) -> Result<Blob, NoMemory>
+    ensures { IfOk result (λ text. text ≡ sign1_structure protected.now payload.now) }
+{
+    let mut parts = Items::new(alloc);
+    parts.push(Item::Text(Text::from_str(alloc, "Signature1")?))?;
+    parts.push(Item::Bytes(Blob::from_slice(alloc, protected)?))?;
+    parts.push(Item::Bytes(Blob::new(Vec::new(alloc))))?;
+    parts.push(Item::Bytes(Blob::from_slice(alloc, payload)?))?;
+    write_det(alloc, &Item::Array(parts))
+}
+
+/// The text over which a Mac0's tag is made (RFC 9052, section 6.3).
+#[tactic(auto, unfolding(crate::specs::Text::mac0_structure))]
+pub(crate) fn mac0_text(alloc: Global, protected: &[u8], payload: &[u8]) -> Result<Blob, NoMemory>
+    ensures { IfOk result (λ text. text ≡ mac0_structure protected.now payload.now) }
+{
+    let mut parts = Items::new(alloc);
+    parts.push(Item::Text(Text::from_str(alloc, "MAC0")?))?;
+    parts.push(Item::Bytes(Blob::from_slice(alloc, protected)?))?;
+    parts.push(Item::Bytes(Blob::new(Vec::new(alloc))))?;
+    parts.push(Item::Bytes(Blob::from_slice(alloc, payload)?))?;
+    write_det(alloc, &Item::Array(parts))
+}
+
+/// The additional data with which an Encrypt0 is sealed (RFC 9052, section 5.3).
+#[tactic(auto, unfolding(crate::specs::Text::encrypt0_structure))]
+pub(crate) fn encrypt0_text(alloc: Global, protected: &[u8]) -> Result<Blob, NoMemory>
+    ensures { IfOk result (λ text. text ≡ encrypt0_structure protected.now) }
+{
+    let mut parts = Items::new(alloc);
+    parts.push(Item::Text(Text::from_str(alloc, "Encrypt0")?))?;
+    parts.push(Item::Bytes(Blob::from_slice(alloc, protected)?))?;
+    parts.push(Item::Bytes(Blob::new(Vec::new(alloc))))?;
+    write_det(alloc, &Item::Array(parts))
+}
