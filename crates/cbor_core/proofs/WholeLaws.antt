@@ -7,7 +7,7 @@ use Rattle.cbor_core.specs.declared.item.Item.{Item}
 use Rattle.cbor_core.specs.Reading.{first_item}
 use Rattle.cbor_core.specs.Spelling.{Spells, SpellsWithin}
 use Rattle.cbor_core.specs.Spots.{Spot, start}
-use Rattle.cbor_core.specs.Whole.{whole, whole_of, ended, said_of, said_at, Says}
+use Rattle.cbor_core.specs.Whole.{whole, whole_of, ended, said_of, said_at, Says, seen_of, seen_at, Shows}
 use Rattle.cbor_core.proofs.Bytes.{IsBytes}
 use Rattle.cbor_core.proofs.Readings.{first_found, first_again}
 
@@ -49,4 +49,26 @@ pub says_again : {A : Type 0} (said : Item → Option A) (place : Spot → ℕ) 
 says_again said place bytes value h =
     ap (said_of said place bytes) (spelled_read bytes h.item h.spelled)
     ∙ ap (ended (length bytes) (length bytes) (place (start bytes))) h.says
+    ∙ (rw (eq-eqb (length bytes) (length bytes) refl) refl)
+
+-- ---- values that keep bytes as they were received
+
+pub shows_found : {A : Type 0} (seen : Spot → Option A) (place : Spot → ℕ) (bytes : List ℕ) (value : A) → IsBytes bytes → seen_at seen place bytes ≡ Ok value → Shows seen bytes value
+shows_found {A} seen place bytes value fits e = go (first_item false bytes) refl e
+  where
+    at_end : (y : Item × ℕ) → first_item false bytes ≡ Ok y → (o : Option A) → seen (start bytes) ≡ o → (b : Bool) → nat_eq y.1 (length bytes) ≡ b → ended (length bytes) y.1 (place (start bytes)) o ≡ Ok value → Shows seen bytes value
+    at_end y read None is b end e = absurd (cc e)
+    at_end y read (Some v) is true end e =
+        let same : v ≡ value = cc (e, end) in
+        record { item = y.0; spelled = read_spelled bytes y fits read (eqb-true y.1 (length bytes) end); shows = is ∙ ap Some same }
+    at_end y read (Some v) is false end e = absurd (cc (e, end))
+
+    go : (r : Result (Item × ℕ) CborFault) → first_item false bytes ≡ r → seen_of seen place bytes r ≡ Ok value → Shows seen bytes value
+    go (Ok y) read e = at_end y read (seen (start bytes)) refl (nat_eq y.1 (length bytes)) refl e
+    go (Err f) read e = absurd (cc e)
+
+pub shows_again : {A : Type 0} (seen : Spot → Option A) (place : Spot → ℕ) (bytes : List ℕ) (value : A) → Shows seen bytes value → seen_at seen place bytes ≡ Ok value
+shows_again seen place bytes value h =
+    ap (seen_of seen place bytes) (spelled_read bytes h.item h.spelled)
+    ∙ ap (ended (length bytes) (length bytes) (place (start bytes))) h.shows
     ∙ (rw (eq-eqb (length bytes) (length bytes) refl) refl)

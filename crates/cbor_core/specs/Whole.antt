@@ -44,3 +44,19 @@ pub record Says {A : Type 0} (said : Item → Option A) (bytes : List ℕ) (valu
   pub item : Item
   pub spelled : Spells item bytes
   pub says : said item ≡ Some value
+
+-- ---- values that keep bytes as they were received
+
+abbrev pub seen_of : {A : Type 0} → (Spot → Option A) → (Spot → ℕ) → List ℕ → Result (Item × ℕ) CborFault → Result A ℕ
+seen_of seen place bytes (Ok x) = ended (length bytes) x.1 (place (start bytes)) (seen (start bytes))
+seen_of seen place bytes (Err fault) = Err (place_of fault)
+
+-- what bytes say, by what stands at a place
+abbrev pub seen_at : {A : Type 0} → (Spot → Option A) → (Spot → ℕ) → List ℕ → Result A ℕ
+seen_at seen place bytes = seen_of seen place bytes (first_item false bytes)
+
+-- the bytes spell, to their end, an item, and where it stands is the value
+pub record Shows {A : Type 0} (seen : Spot → Option A) (bytes : List ℕ) (value : A) : Type 0 where
+  pub item : Item
+  pub spelled : Spells item bytes
+  pub shows : seen (start bytes) ≡ Some value

@@ -33,4 +33,4 @@ pub use part::Part;
 pub use read::{read_det, read_wire};
 pub use shapes::exactly;
 pub use text::Text;
-pub use write::write_det;
+pub use write::{write_det, write_head};

@@ -176,9 +176,10 @@ fn write_string(out: &mut Vec<u8>, major: u8, bytes: &[u8]) -> Result<(), NoMemo
     Ok(())
 }
 
-/// Writes a head with the shortest argument.
+/// Writes a head of a major type below 8 with the shortest argument (RFC 8949, section 3). Where memory runs out, what
+/// was written may be cut short.
 #[tactic(auto, unfolding(crate::specs::Head::head))]
-fn write_head(out: &mut Vec<u8>, major: u8, argument: u64) -> Result<(), NoMemory>
+pub fn write_head(out: &mut Vec<u8>, major: u8, argument: u64) -> Result<(), NoMemory>
     requires { major < 8 }
     ensures { OnOk result (out.new.items ≡ out.old.items ++ head major argument) }
 {

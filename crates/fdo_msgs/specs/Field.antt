@@ -6,6 +6,7 @@ use Rattle.cbor_core.specs.declared.item.Item.TheVariants as items
 use Rattle.cbor_core.specs.Spots.{bytes_in, text_in}
 use Rattle.cbor_core.specs.Shapes.{null, is_null, of_length}
 use Rattle.key_codec.specs.declared.fault.KeyFault.{KeyFault}
+use Rattle.key_codec.specs.Fault.{ok_of}
 use Rattle.key_codec.specs.Hash.{hash_in, item_of_hash}
 use Rattle.key_codec.specs.Key.{is_key_type, body_in, item_of_body}
 use Rattle.cbor_core.specs.Numbers.{integer_in, item_of_integer}
@@ -17,10 +18,6 @@ use Rattle.fdo_msgs.specs.declared.shape.Shape.{Shape}
 use Rattle.fdo_msgs.specs.declared.shape.Shape.TheVariants as shape
 
 -- ---- reading
-
-abbrev pub ok_of : {A : Type 0} → Result A KeyFault → Option A
-ok_of (Ok x) = Some x
-ok_of (Err f) = None
 
 -- then, where there is a value
 infixl 10 ◌>>=◌

@@ -1,6 +1,7 @@
 ghost use Rattle.std.specs.Prelude.{◌≡◌, IfOk};
 ghost use Rattle.cbor_core.specs.declared.item.Item.{out-Item};
-ghost use Rattle.fdo_msgs.specs.Field.{five_in, mfg_in, ok_of};
+ghost use Rattle.fdo_msgs.specs.Field.{five_in, mfg_in};
+ghost use Rattle.key_codec.specs.Fault.{ok_of};
 
 use crate::msg::MfgInfo;
 use cbor_core::{Item, NoMemory, integer};

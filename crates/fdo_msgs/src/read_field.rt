@@ -2,7 +2,8 @@ ghost use Rattle.std.specs.Prelude.{◌≡◌, IfOk};
 ghost use Rattle.cbor_core.specs.declared.item.Item.{out-Item};
 ghost use Rattle.cbor_core.specs.Spots.{spot_item};
 ghost use Rattle.fdo_msgs.specs.declared.shape.Shape.TheVariants as shapes;
-ghost use Rattle.fdo_msgs.specs.Field.{up_to as number_up_to, field_in, ok_of};
+ghost use Rattle.fdo_msgs.specs.Field.{up_to as number_up_to, field_in};
+ghost use Rattle.key_codec.specs.Fault.{ok_of};
 ghost use Rattle.cbor_core.specs.Shapes.{is_null as is_null_item};
 ghost use Rattle.key_codec.specs.Hash.{hash_in};
 

@@ -1,5 +1,5 @@
 -- What readers answer.
-use Rattle.std.specs.Prelude.{◌≡◌, Option, Result, Ok, Err, ok_or}
+use Rattle.std.specs.Prelude.{◌≡◌, Option, Some, None, Result, Ok, Err, ok_or}
 use Rattle.key_codec.specs.declared.fault.KeyFault.{KeyFault}
 use Rattle.key_codec.specs.declared.fault.KeyFault.TheVariants as fault
 
@@ -11,6 +11,11 @@ abbrev pub ◌>>=◌ : {A B : Type 0} → Result A KeyFault → (A → Result B 
 -- a part that is there; without it the whole is not of its shape
 abbrev pub shaped : {A : Type 0} → Option A → Result A KeyFault
 shaped part = ok_or part fault.BadShape
+
+-- what is said, where nothing is at fault
+abbrev pub ok_of : {A : Type 0} → Result A KeyFault → Option A
+ok_of (Ok x) = Some x
+ok_of (Err f) = None
 
 -- what a reader answers is what the item says, want of memory aside
 abbrev pub Fails : {Y : Type 0} → KeyFault → Result Y KeyFault → Type 0

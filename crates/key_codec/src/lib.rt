@@ -23,8 +23,8 @@ pub use kind::{
     HSS_LMS, LABORATORY, RSA2048RESTR, RSAPKCS, RSAPSS, SECP256R1, SECP384R1, is_key_type,
 };
 pub use places::{
-    find_encoded_fault, find_hash_fault, find_key_fault, find_sig_info_fault,
+    find_chain_fault, find_encoded_fault, find_hash_fault, find_key_fault, find_sig_info_fault,
 };
-pub use read::{read_key, read_key_body};
+pub use read::{read_chain, read_key, read_key_body};
 pub use sig_info::{SigInfo, read_sig_info, sig_info_item};
 pub use write::{key_body_item, key_bytes, key_item};

@@ -111,7 +111,7 @@ fn find_form_fault(form: Form, body: &Part) -> usize
 
 /// The first certificate that is no byte string, or the array.
 #[tactic(auto, unfolding(crate::specs::Places::chain_place))]
-fn find_chain_fault(body: &Part) -> usize
+pub fn find_chain_fault(body: &Part) -> usize
     ensures { result ≡ chain_place body.now.spot }
 {
     if !body.is_array() {

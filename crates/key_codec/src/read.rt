@@ -78,7 +78,8 @@ fn read_form(alloc: Global, form: Form, item: &Item) -> Result<KeyBody, KeyFault
     }
 }
 
-fn read_chain(alloc: Global, item: &Item) -> Result<X5Chain, KeyFault>
+/// The chain of certificates that an item says: an array of byte strings, at least one, or one byte string.
+pub fn read_chain(alloc: Global, item: &Item) -> Result<X5Chain, KeyFault>
     ensures { Says (λ chain. chain) result (chain_in item.now) }
 {
     let certificates = match item {
