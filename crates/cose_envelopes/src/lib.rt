@@ -5,7 +5,7 @@
 pub mod encrypt0;
 pub mod fault;
 pub mod mac0;
-mod parts;
+pub mod parts;
 pub mod protected;
 pub mod sealing;
 pub mod sealing_etm;
@@ -16,6 +16,7 @@ pub mod text;
 pub use encrypt0::{Encrypt0, read_encrypt0, write_encrypt0};
 pub use fault::CoseFault;
 pub use mac0::{Mac0, read_mac0, write_mac0};
+pub use parts::is_protected;
 pub use sealing::{open, seal};
 pub use sealing_etm::{open_etm, seal_etm};
 pub use signing::{sign, verify};

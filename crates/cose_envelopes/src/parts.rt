@@ -66,7 +66,8 @@ pub(crate) fn is_bytes(part: &Part) -> bool
     part.major() == 2
 }
 
-pub(crate) fn is_protected(alloc: Global, part: &Part) -> Result<bool, NoMemory>
+/// Whether a part is a byte string that holds a protected header.
+pub fn is_protected(alloc: Global, part: &Part) -> Result<bool, NoMemory>
     ensures { IfOk result (λ is. is ≡ is_a_header part.now.spot) }
 {
     match read_protected(alloc, part)? {

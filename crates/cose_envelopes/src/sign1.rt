@@ -26,6 +26,21 @@ pub struct Sign1 {
     pub sig: Blob,
 }
 
+impl Sign1 {
+    /// An equal envelope.
+    pub fn copy(&self, alloc: Global) -> Result<Sign1, NoMemory>
+        ensures { IfOk result (λ copy. copy ≡ self.now) }
+    {
+        Ok(Sign1 {
+            protected: self.protected.copy()?,
+            alg: self.alg,
+            unprotected: copy_pairs(alloc, self.unprotected.as_slice())?,
+            payload: self.payload.copy()?,
+            sig: self.sig.copy()?,
+        })
+    }
+}
+
 /// The Sign1 that bytes spell, all of them, with its tag or without.
 pub fn read_sign1(alloc: Global, bytes: &[u8]) -> Result<Sign1, CoseFault>
     // What is read is spelled: an item whose parts are those of the envelope.

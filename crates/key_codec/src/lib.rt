@@ -27,4 +27,4 @@ pub use places::{
 };
 pub use read::{read_chain, read_key, read_key_body};
 pub use sig_info::{SigInfo, read_sig_info, sig_info_item};
-pub use write::{key_body_item, key_bytes, key_item};
+pub use write::{chain_item, key_body_item, key_bytes, key_item};

@@ -4,6 +4,7 @@ ghost use Rattle.cbor_core.specs.Deterministic.{det};
 ghost use Rattle.cbor_core.specs.Norm.{IsFit, IsReadBack};
 ghost use Rattle.key_codec.specs.Key.{item_of_key, item_of_body, item_of_cose};
 
+use crate::chain::X5Chain;
 use crate::key::{CoseKey, KeyBody, PublicKey};
 use cbor_core::{Blob, Item, Items, NoMemory, Pairs, write_det, integer_item};
 use std::alloc::Global;
@@ -25,9 +26,16 @@ pub fn key_body_item(alloc: Global, body: &KeyBody) -> Result<Item, NoMemory>
 {
     match body {
         KeyBody::Bytes(bytes) => Ok(Item::Bytes(bytes.copy()?)),
-        KeyBody::Chain(chain) => Ok(Item::Array(blob_items(alloc, chain.as_list())?)),
+        KeyBody::Chain(chain) => chain_item(alloc, chain),
         KeyBody::Cose(key) => cose_item(alloc, key),
     }
+}
+
+/// The item that a chain of certificates is written as: an array, also of one.
+pub fn chain_item(alloc: Global, chain: &X5Chain) -> Result<Item, NoMemory>
+    ensures { IfOk result (λ item. item ≡ items.Array (map items.Bytes chain.now)) }
+{
+    Ok(Item::Array(blob_items(alloc, chain.as_list())?))
 }
 
 fn blob_items(alloc: Global, blobs: &[Blob]) -> Result<Items, NoMemory>

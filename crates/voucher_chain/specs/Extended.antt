@@ -1,0 +1,76 @@
+-- A voucher with one more entry, and the strength of the hashes that are made for it.
+use Rattle.std.specs.Prelude.{◌≡◌, ℕ, ◌==◌, ℤ, pos, List, [], ◌∷◌, ◌++◌, length, nat_lt, Bool, true, false, ◌||◌, ◌&&◌, Option, Some, None, IsSome, Result, Ok, Err, if◌then◌else◌}
+use Rattle.std.specs.Ordering.{int_eq}
+use Rattle.cbor_core.specs.Deterministic.{det}
+use Rattle.hash_hmac.specs.Kind.{sha256_kind, sha384_kind}
+use Rattle.key_codec.specs.declared.key.KeyBody.{KeyBody}
+use Rattle.key_codec.specs.declared.key.KeyBody.TheVariants as body
+use Rattle.key_codec.specs.declared.key.PublicKey.{PublicKey}
+use Rattle.cose_envelopes.specs.Envelope.{item_of_sign1}
+use Rattle.suite_port.specs.Answer.{Rises}
+use Rattle.voucher_chain.specs.declared.fault.ChainFault.{ChainFault}
+use Rattle.voucher_chain.specs.declared.fault.ChainFault.TheVariants as fault
+use Rattle.voucher_chain.specs.declared.entry.Entry.{Entry}
+use Rattle.voucher_chain.specs.declared.voucher.Voucher.{Voucher}
+use Rattle.voucher_chain.specs.Chain.{Verifies, Follows, front, last_bytes, last_key}
+use Rattle.voucher_chain.specs.Entry.{item_of_payload}
+use Rattle.voucher_chain.specs.Voucher.{voucher_with}
+
+-- ---- strength
+
+-- a laboratory key whose bytes are more than 16
+abbrev pub is_long : KeyBody → Bool
+is_long (body.Bytes b) = nat_lt 16 (length b)
+is_long _ = false
+
+-- 384 for keys on P-384, type 11, and for long laboratory keys, type 200
+abbrev pub strength_of : PublicKey → ℕ
+strength_of key = if int_eq key.kind (pos 11) || (int_eq key.kind (pos 200) && is_long key.body) then 384 else 256
+
+-- the hash of a strength: SHA-256 or SHA-384
+abbrev pub hash_kind : ℕ → ℤ
+hash_kind bits = if bits == 384 then sha384_kind else sha256_kind
+
+-- ---- the longer voucher
+
+-- an entry that goes on from a voucher to a next owner, with hashes of the kind of the header's key
+pub record IsNext (verifies : Verifies) (v : Voucher) (next : PublicKey) (entry : Entry) : Type 0 where
+  pub follows : Follows verifies v.header (last_bytes (front v) v.entries) (last_key v.header.key v.entries) entry
+  pub prev : entry.prev.kind ≡ hash_kind (strength_of v.header.key)
+  pub hdr : entry.hdr.kind ≡ hash_kind (strength_of v.header.key)
+  pub extra : entry.extra ≡ None
+  pub key : entry.key ≡ next
+  pub unprotected : entry.sign.unprotected ≡ []
+  pub payload : entry.sign.payload ≡ det (item_of_payload entry.prev entry.hdr next)
+  pub raw : entry.raw ≡ det (item_of_sign1 entry.sign)
+
+-- all that the voucher had, byte for byte, and such an entry
+pub record IsExtended (verifies : Verifies) (v : Voucher) (next : PublicKey) (longer : Voucher) : Type 0 where
+  pub entry : Entry
+  pub is_next : IsNext verifies v next entry
+  pub all : longer ≡ voucher_with v.header v.hmac v.hmac_raw v.chain (v.entries ++ entry ∷ [])
+
+-- ---- refusals
+
+-- NoAlgorithm with the number of entries exactly where the last owner's key has none, and else nothing but a failure or
+-- want of memory, which may also come first
+abbrev pub RefusesNext : {A : Type 0} → Option ℤ → ℕ → Result A ChainFault → Type 0
+RefusesNext told index (Ok value) = IsSome told
+RefusesNext told index (Err (fault.NoAlgorithm number)) = (told ≡ None) × (number ≡ index)
+RefusesNext told index (Err fault.Failed) = IsSome told
+RefusesNext told index (Err fault.NoMemory) = Unit {0}
+RefusesNext told index (Err f) = ⊥
+
+-- too long comes first, exactly at 255 entries
+abbrev pub RefusesBelow : {A : Type 0} → Bool → Option ℤ → ℕ → Result A ChainFault → Type 0
+RefusesBelow false told count result = result ≡ Err fault.TooLong
+RefusesBelow true told count result = RefusesNext told count result
+
+abbrev pub Refuses : {A : Type 0} → Option ℤ → ℕ → Result A ChainFault → Type 0
+Refuses told count result = RefusesBelow (nat_lt count 255) told count result
+
+-- the suite's count of faults rose exactly where the call failed
+abbrev pub Counts : {A : Type 0} → ℕ → ℕ → Result A ChainFault → Type 0
+Counts before now (Ok value) = now ≡ before
+Counts before now (Err fault.Failed) = Rises before now
+Counts before now (Err f) = now ≡ before

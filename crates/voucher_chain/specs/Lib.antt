@@ -1,0 +1,10 @@
+pub mod Chain
+pub mod Deep
+pub mod Entry
+pub mod Extended
+pub mod Fault
+pub mod Header
+pub mod Match
+pub mod Reading
+pub mod RvInfo
+pub mod Voucher

@@ -1,0 +1,178 @@
+ghost use Rattle.std.specs.Prelude.{◌≡◌, ◌≤◌, ◌++◌, [], ◌∷◌, List, length, true, IfOk};
+ghost use Rattle.cbor_core.specs.Deterministic.{det};
+ghost use Rattle.key_codec.specs.declared.key.PublicKey.{PublicKey};
+ghost use Rattle.key_codec.specs.Key.{item_of_key};
+ghost use Rattle.voucher_chain.specs.Chain.{Chain, last_key};
+ghost use Rattle.voucher_chain.specs.Extended.{Counts, IsExtended, Refuses, RefusesNext};
+
+use crate::chain::owner_key;
+use crate::entry::{Entry, payload_item_of};
+use crate::fault::ChainFault;
+use crate::strengths::{hash_kind_of, strength};
+use crate::voucher::{Entries, Voucher, voucher_raw};
+use cbor_core::{Blob, NoMemory, Pairs, write_det};
+use cose_envelopes::{CoseFault, Sign1, sign, write_sign1};
+use hash_hmac::{Hash, hash_of};
+use key_codec::{PublicKey, X5Chain, key_bytes};
+use std::alloc::Global;
+use suite_port::Suite;
+
+/// The voucher with one more entry, which names the next owner's key and is signed under the last one's, which the suite
+/// holds. The refusals come in this order: `TooLong`, exactly where the voucher has 255 entries; `NoAlgorithm` with the
+/// number of its entries, exactly where `alg_of` gives none for the last owner's key; `Failed`; `NoMemory` may come at any
+/// place.
+pub fn extend<S: Suite>(
+    alloc: Global,
+    suite: &mut S,
+    voucher: &Voucher,
+    next: &PublicKey,
+) -> Result<Voucher, ChainFault>
+    requires held { S.Holder.held suite.old (det (item_of_key (last_key voucher.now.header.key voucher.now.entries))) ≡ true }
+    requires few { length voucher.now.entries ≤ 255 }
+    // All that the voucher had, byte for byte, and an entry that goes on from it to the next owner.
+    ensures longer { IfOk result (IsExtended S.Verifier.verifies voucher.now next.now) }
+    // A chain that holds is kept, with the next owner's key as its last.
+    ensures keeps { IfOk result (λ longer. (keys : List PublicKey) → Chain S.Verifier.verifies voucher.now keys → Chain S.Verifier.verifies longer (keys ++ next.now ∷ [])) }
+    ensures owner { IfOk result (λ longer. last_key longer.header.key longer.entries ≡ next.now) }
+    // Which refusal it is.
+    ensures refused { Refuses (S.Signer.algorithm (det (item_of_key (last_key voucher.now.header.key voucher.now.entries)))) (length voucher.now.entries) result }
+    ensures held { S.Holder.held suite.new ≡ S.Holder.held suite.old }
+    ensures faults { Counts (S.Holder.faults suite.old) (S.Holder.faults suite.new) result }
+{
+    let count = voucher.entries.as_list().len();
+    if count >= 255 {
+        return Err(ChainFault::TooLong);
+    }
+    let entry = next_entry(alloc, suite, voucher, count as u8, next)?;
+    Ok(with_entry(alloc, voucher, entry)?)
+}
+
+ghost use Rattle.voucher_chain.specs.Extended.{IsNext};
+
+/// The entry that goes on from a voucher.
+fn next_entry<S: Suite>(
+    alloc: Global,
+    suite: &mut S,
+    voucher: &Voucher,
+    index: u8,
+    next: &PublicKey,
+) -> Result<Entry, ChainFault>
+    requires held { S.Holder.held suite.old (det (item_of_key (last_key voucher.now.header.key voucher.now.entries))) ≡ true }
+    ensures next { IfOk result (IsNext S.Verifier.verifies voucher.now next.now) }
+    ensures refused { RefusesNext (S.Signer.algorithm (det (item_of_key (last_key voucher.now.header.key voucher.now.entries)))) index result }
+    ensures held { S.Holder.held suite.new ≡ S.Holder.held suite.old }
+    ensures faults { Counts (S.Holder.faults suite.old) (S.Holder.faults suite.new) result }
+{
+    let kind = hash_kind_of(strength(&voucher.header.key));
+    let Some(prev) = hash_before(kind, voucher) else {
+        return Err(ChainFault::NoAlgorithm(index));
+    };
+    let info = voucher.header.info.as_list().as_bytes();
+    let Some(hdr) = hash_of(kind, &voucher.header.guid, info) else {
+        return Err(ChainFault::NoAlgorithm(index));
+    };
+    let signer = key_bytes(alloc, owner_key(voucher))?;
+    let payload = payload_bytes(alloc, &prev, &hdr, next)?;
+    let sign = sign_payload(alloc, suite, index, signer.as_list(), payload)?;
+    Ok(Entry {
+        raw: write_sign1(alloc, &sign)?,
+        prev,
+        hdr,
+        extra: None,
+        key: next.copy(alloc)?,
+        sign,
+    })
+}
+
+ghost use Rattle.std.specs.Prelude.{option_map};
+ghost use Rattle.hash_hmac.specs.Hashing.{hashed};
+ghost use Rattle.hash_hmac.specs.Value.{hash_value};
+ghost use Rattle.voucher_chain.specs.Chain.{front, last_bytes};
+ghost use Rattle.voucher_chain.specs.Entry.{item_of_payload};
+
+/// The hash of what stands before the next entry.
+fn hash_before(kind: i64, voucher: &Voucher) -> Option<Hash>
+    ensures { result ≡ option_map (hash_value kind) (hashed kind (last_bytes (front voucher.now) voucher.now.entries)) }
+{
+    match voucher.entries.as_list().last() {
+        Some(entry) => hash_of(kind, entry.raw.as_list(), &[]),
+        None => hash_of(kind, voucher.header.raw.as_list(), voucher.hmac_raw.as_list()),
+    }
+}
+
+fn payload_bytes(
+    alloc: Global,
+    prev: &Hash,
+    hdr: &Hash,
+    next: &PublicKey,
+) -> Result<Blob, NoMemory>
+    ensures { IfOk result (λ bytes. bytes ≡ det (item_of_payload prev.now hdr.now next.now)) }
+{
+    let item = payload_item_of(alloc, prev, hdr, next)?;
+    write_det(alloc, &item)
+}
+
+ghost use Rattle.std.specs.Prelude.{Some};
+ghost use Rattle.cose_envelopes.specs.Text.{sign1_structure};
+
+fn sign_payload<S: Suite>(
+    alloc: Global,
+    suite: &mut S,
+    index: u8,
+    key: &[u8],
+    payload: Blob,
+) -> Result<Sign1, ChainFault>
+    requires { S.Holder.held suite.old key.now ≡ true }
+    ensures parts { IfOk result (λ sign. (sign.unprotected ≡ []) × (sign.payload ≡ payload)) }
+    ensures signed { IfOk result (λ sign. S.Verifier.verifies key.now sign.alg (sign1_structure sign.protected sign.payload) sign.sig ≡ Some true) }
+    ensures refused { RefusesNext (S.Signer.algorithm key.now) index result }
+    ensures held { S.Holder.held suite.new ≡ S.Holder.held suite.old }
+    ensures faults { Counts (S.Holder.faults suite.old) (S.Holder.faults suite.new) result }
+{
+    match sign(alloc, suite, key, Pairs::new(alloc), payload) {
+        Ok(signed) => Ok(signed),
+        Err(CoseFault::Failed) => Err(ChainFault::Failed),
+        Err(CoseFault::NoAlgorithm(_)) => Err(ChainFault::NoAlgorithm(index)),
+        Err(_) => Err(ChainFault::NoMemory),
+    }
+}
+
+ghost use Rattle.voucher_chain.specs.declared.entry.Entry.{Entry};
+ghost use Rattle.voucher_chain.specs.Voucher.{voucher_with};
+
+/// The voucher with one more entry.
+fn with_entry(alloc: Global, voucher: &Voucher, entry: Entry) -> Result<Voucher, NoMemory>
+    ensures { IfOk result (λ longer. longer ≡ voucher_with voucher.now.header voucher.now.hmac voucher.now.hmac_raw voucher.now.chain (voucher.now.entries ++ entry ∷ [])) }
+{
+    let mut entries = copy_entries(alloc, voucher.entries.as_list())?;
+    entries.push(entry)?;
+    let hmac_raw = voucher.hmac_raw.copy()?;
+    let raw = voucher_raw(alloc, &voucher.header, hmac_raw.as_list(), &voucher.chain, entries.as_slice())?;
+    Ok(Voucher {
+        raw,
+        header: voucher.header.copy(alloc)?,
+        hmac: voucher.hmac,
+        hmac_raw,
+        chain: copy_chain(alloc, &voucher.chain)?,
+        entries: Entries::new(entries),
+    })
+}
+
+fn copy_chain(alloc: Global, chain: &Option<X5Chain>) -> Result<Option<X5Chain>, NoMemory>
+    ensures { IfOk result (λ copy. copy ≡ chain.now) }
+{
+    match chain {
+        Some(chain) => Ok(Some(chain.copy(alloc)?)),
+        None => Ok(None),
+    }
+}
+
+fn copy_entries(alloc: Global, entries: &[Entry]) -> Result<Vec<Entry>, NoMemory>
+    ensures { IfOk result (λ all. all.items ≡ entries.now) }
+{
+    let mut all = Vec::new(alloc);
+    for entry in entries {
+        all.push(entry.copy(alloc)?)?;
+    }
+    Ok(all)
+}
