@@ -1,7 +1,6 @@
 -- Ownership vouchers (FIDO Device Onboard 1.1, section 3.4.1): an array of the version, the bytes of the header, the
 -- header's HMAC, the device's certificates or null, and the entries.
-use Rattle.std.specs.Prelude.{ℕ, pos, ℤ, List, [], ◌∷◌, ◌++◌, length, map, Bool, false, ◌||◌, Option, Some, None, if◌then◌else◌, is_some, is_none}
-use Rattle.std.specs.List.{concat}
+use Rattle.std.specs.Prelude.{ℕ, pos, ℤ, List, [], ◌∷◌, ◌++◌, length, map, flat_map, Bool, false, ◌||◌, Option, Some, None, if◌then◌else◌, is_some, is_none}
 use Rattle.std.specs.Ordering.{int_eq}
 use Rattle.cbor_core.specs.declared.item.Item.{Item, out-Item}
 use Rattle.cbor_core.specs.declared.item.Item.TheVariants as items
@@ -114,13 +113,10 @@ item_of_certificates None = null
 item_of_certificates (Some chain) = items.Array (map items.Bytes chain)
 
 -- the bytes of a voucher, in the deterministic encoding but for its HMAC and its entries, which stand as they were received
-abbrev pub voucher_bytes : List ℕ → List ℕ → Option (List (List ℕ)) → List (List ℕ) → List ℕ
-voucher_bytes header hmac chain entries = head 4 5 ++ head 0 101 ++ head 2 (length header) ++ header ++ hmac ++ det (item_of_certificates chain) ++ head 4 (length entries) ++ concat entries
-
-abbrev pub raws : List Entry → List (List ℕ)
-raws es = map (λ (e : Entry). e.raw) es
+abbrev pub voucher_bytes : List ℕ → List ℕ → Option (List (List ℕ)) → List Entry → List ℕ
+voucher_bytes header hmac chain entries = head 4 5 ++ head 0 101 ++ head 2 (length header) ++ header ++ hmac ++ det (item_of_certificates chain) ++ head 4 (length entries) ++ flat_map (λ (e : Entry). e.raw) entries
 
 -- the voucher of these parts
 abbrev pub voucher_with : Header → Hash → List ℕ → Option (List (List ℕ)) → List Entry → Voucher
 voucher_with header hmac hmac_raw chain entries =
-    record { raw = voucher_bytes header.raw hmac_raw chain (raws entries); header = header; hmac = hmac; hmac_raw = hmac_raw; chain = chain; entries = entries }
+    record { raw = voucher_bytes header.raw hmac_raw chain entries; header = header; hmac = hmac; hmac_raw = hmac_raw; chain = chain; entries = entries }

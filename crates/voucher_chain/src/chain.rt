@@ -175,7 +175,8 @@ fn check_entries<S: Suite>(
     let mut signer = &voucher.header.key;
     let mut first = voucher.header.raw.as_list();
     let mut second = voucher.hmac_raw.as_list();
-    for entry in voucher.entries.as_list() {
+    let entries = voucher.entries.as_list();
+    for entry in entries {
         match check_entry(
             alloc,
             suite,

@@ -27,7 +27,7 @@ fn find_deep_content(content: &Part, levels: usize) -> Option<usize>
 }
 
 /// The place of the first of the items inside, and of those inside them, that has no level left.
-#[tactic(auto, unfolding(crate::specs::Deep::deep_place))]
+#[tactic(auto, using(crate::proofs::DeepLaws::deep_none, crate::proofs::DeepLaws::deep_more, crate::proofs::DeepLaws::deep_at_zero))]
 #[cycle(deep)]
 fn find_deep(part: &Part, levels: usize) -> Option<usize>
     ensures { result ≡ deep_place levels (spot_parts part.now.spot) }

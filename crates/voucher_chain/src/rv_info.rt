@@ -81,7 +81,8 @@ impl RvDirective {
         ensures { IfOk result (λ copy. copy ≡ self.now) }
     {
         let mut instructions = Vec::with_capacity(alloc, self.instructions.len())?;
-        for instruction in self.instructions.as_slice() {
+        let all = self.instructions.as_slice();
+        for instruction in all {
             instructions.push(instruction.copy()?)?;
         }
         Ok(RvDirective { instructions })
@@ -106,7 +107,8 @@ impl RvInfo {
         ensures { IfOk result (λ copy. copy ≡ self.now) }
     {
         let mut directives = Vec::with_capacity(alloc, self.directives.len())?;
-        for directive in self.directives.as_slice() {
+        let all = self.directives.as_slice();
+        for directive in all {
             directives.push(directive.copy(alloc)?)?;
         }
         Ok(RvInfo { directives })
@@ -322,7 +324,8 @@ pub fn rv_item(alloc: Global, rv: &RvInfo) -> Result<Item, NoMemory>
     ensures { IfOk result (λ item. item ≡ item_of_rv rv.now) }
 {
     let mut items = Items::new(alloc);
-    for directive in rv.as_list() {
+    let directives = rv.as_list();
+    for directive in directives {
         items.push(directive_item(alloc, directive)?)?;
     }
     Ok(Item::Array(items))
@@ -332,7 +335,8 @@ fn directive_item(alloc: Global, directive: &RvDirective) -> Result<Item, NoMemo
     ensures { IfOk result (λ item. item ≡ item_of_directive directive.now) }
 {
     let mut items = Items::new(alloc);
-    for instruction in directive.as_list() {
+    let instructions = directive.as_list();
+    for instruction in instructions {
         items.push(instr_item(alloc, instruction)?)?;
     }
     Ok(Item::Array(items))

@@ -29,6 +29,11 @@ impl Model for Entries {
     ghost Value = { List Entry };
 
     ghost view = { λ e. e.entries.items };
+
+    ghost use Rattle.cbor_core.specs.contracts.item.Item as item;
+    ghost use Rattle.std.specs.Coded.{codes};
+
+    ghost coded = { Prim.hlevel (codes, item.the_row.coded) };
 }
 
 impl Entries {
@@ -146,7 +151,7 @@ fn read_parts(
             hmac: mac,
             hmac_raw: Blob::from_slice(alloc, hmac.raw())?,
             chain,
-            entries: Entries { entries },
+            entries,
         })),
         _ => Ok(None),
     }
@@ -213,13 +218,15 @@ fn read_certificates(alloc: Global, part: &Part) -> Result<Option<Option<X5Chain
     }
 }
 
-fn read_entries(alloc: Global, part: &Part) -> Result<Option<Vec<Entry>>, NoMemory>
-    ensures { IfOk result (λ all. option_map (λ v. v.items) all ≡ entries_inside part.now.spot) }
+fn read_entries(alloc: Global, part: &Part) -> Result<Option<Entries>, NoMemory>
+    ensures { IfOk result (λ all. all ≡ entries_inside part.now.spot) }
 {
-    if part.is_array() {
-        read_all(alloc, part)
-    } else {
-        Ok(None)
+    if !part.is_array() {
+        return Ok(None);
+    }
+    match read_all(alloc, part)? {
+        Some(entries) => Ok(Some(Entries { entries })),
+        None => Ok(None),
     }
 }
 
@@ -346,7 +353,8 @@ pub fn write_voucher(
 }
 
 ghost use Rattle.std.specs.Prelude.{true, OnOk, ◌++◌};
-ghost use Rattle.std.specs.List.{concat};
+ghost use Rattle.std.specs.Prelude.{flat_map};
+ghost use Rattle.voucher_chain.specs.declared.entry.Entry.{Entry};
 ghost use Rattle.cbor_core.specs.Deterministic.{det};
 ghost use Rattle.key_codec.specs.Hash.{item_of_hash};
 
@@ -357,7 +365,7 @@ fn hash_bytes(alloc: Global, hash: &HMac) -> Result<Blob, NoMemory>
     write_det(alloc, &item)
 }
 
-ghost use Rattle.voucher_chain.specs.Voucher.{item_of_certificates, raws, voucher_bytes};
+ghost use Rattle.voucher_chain.specs.Voucher.{item_of_certificates, voucher_bytes};
 
 /// The bytes of a voucher, in which its HMAC and its entries stand as they were received.
 pub(crate) fn voucher_raw(
@@ -367,7 +375,7 @@ pub(crate) fn voucher_raw(
     chain: &Option<X5Chain>,
     entries: &[Entry],
 ) -> Result<Blob, NoMemory>
-    ensures { IfOk result (λ bytes. bytes ≡ voucher_bytes header.now.raw hmac_raw.now chain.now (raws entries.now)) }
+    ensures { IfOk result (λ bytes. bytes ≡ voucher_bytes header.now.raw hmac_raw.now chain.now entries.now) }
 {
     let certificates = certificates_bytes(alloc, chain)?;
     let mut out = Vec::with_capacity(alloc, 64)?;
@@ -393,7 +401,7 @@ fn certificates_bytes(alloc: Global, chain: &Option<X5Chain>) -> Result<Blob, No
 }
 
 fn put_entries(out: &mut Vec<u8>, entries: &[Entry]) -> Result<(), NoMemory>
-    ensures { OnOk result (out.new.items ≡ out.old.items ++ concat (raws entries.now)) }
+    ensures { OnOk result (out.new.items ≡ out.old.items ++ flat_map (λ (e : Entry). e.raw) entries.now) }
 {
     for entry in entries {
         out.extend_from_slice(entry.raw.as_list())?;

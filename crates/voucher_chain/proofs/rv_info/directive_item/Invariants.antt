@@ -1,0 +1,6 @@
+use Rattle.std.proofs.Common.{◌≡◌, map, take}
+use Rattle.voucher_chain.specs.RvInfo.{item_of_instr}
+use Rattle.voucher_chain.proofs.rv_info.directive_item.Given as goal
+
+abbrev pub invariant-loop-instruction : goal.invariant-loop-instruction
+invariant-loop-instruction l = l.items ≡ map item_of_instr (take l.instruction-index l.instructions)
