@@ -1,3 +1,4 @@
 pub mod Alls
+pub mod ChainLaws
 pub mod DeepLaws
 pub mod ReadLaws

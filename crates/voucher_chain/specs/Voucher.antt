@@ -57,7 +57,7 @@ entries_inside s = if is_array (out-Item (spot_item s)) then all_in entry_inside
 -- a voucher with the bytes of itself and of its HMAC as they were received
 abbrev pub voucher_values : Spot → Spot → Spot → Spot → Spot → Option Voucher
 voucher_values s header mac chain entries =
-    header_inside (spot_item header) >>= λ header. mac_in (spot_item mac) >>= λ hmac. certificates_in (spot_item chain) >>= λ chain. entries_inside entries >>= λ entries.
+    mac_in (spot_item mac) >>= λ hmac. header_inside (spot_item header) >>= λ header. certificates_in (spot_item chain) >>= λ chain. entries_inside entries >>= λ entries.
     Some (record { raw = spot_raw s; header = header; hmac = hmac; hmac_raw = spot_raw mac; chain = chain; entries = entries })
 
 abbrev pub voucher_of : Spot → Spot × Spot × Spot × Spot × Spot → Option Voucher

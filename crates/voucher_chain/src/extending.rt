@@ -39,6 +39,22 @@ pub fn extend<S: Suite>(
     ensures held { S.Holder.held suite.new ≡ S.Holder.held suite.old }
     ensures faults { Counts (S.Holder.faults suite.old) (S.Holder.faults suite.new) result }
 {
+    lengthen(alloc, suite, voucher, next)
+}
+
+fn lengthen<S: Suite>(
+    alloc: Global,
+    suite: &mut S,
+    voucher: &Voucher,
+    next: &PublicKey,
+) -> Result<Voucher, ChainFault>
+    requires held { S.Holder.held suite.old (det (item_of_key (last_key voucher.now.header.key voucher.now.entries))) ≡ true }
+    requires few { length voucher.now.entries ≤ 255 }
+    ensures longer { IfOk result (IsExtended S.Verifier.verifies voucher.now next.now) }
+    ensures refused { Refuses (S.Signer.algorithm (det (item_of_key (last_key voucher.now.header.key voucher.now.entries)))) (length voucher.now.entries) result }
+    ensures held { S.Holder.held suite.new ≡ S.Holder.held suite.old }
+    ensures faults { Counts (S.Holder.faults suite.old) (S.Holder.faults suite.new) result }
+{
     let count = voucher.entries.as_list().len();
     if count >= 255 {
         return Err(ChainFault::TooLong);
@@ -63,14 +79,10 @@ fn next_entry<S: Suite>(
     ensures held { S.Holder.held suite.new ≡ S.Holder.held suite.old }
     ensures faults { Counts (S.Holder.faults suite.old) (S.Holder.faults suite.new) result }
 {
-    let kind = hash_kind_of(strength(&voucher.header.key));
-    let Some(prev) = hash_before(kind, voucher) else {
-        return Err(ChainFault::NoAlgorithm(index));
-    };
-    let info = voucher.header.info.as_list().as_bytes();
-    let Some(hdr) = hash_of(kind, &voucher.header.guid, info) else {
-        return Err(ChainFault::NoAlgorithm(index));
-    };
+    let bits = strength(&voucher.header.key);
+    let (first, second) = texts_before(voucher);
+    let prev = hash_by(bits, first, second);
+    let hdr = hash_by(bits, &voucher.header.guid, voucher.header.info.as_list().as_bytes());
     let signer = key_bytes(alloc, owner_key(voucher))?;
     let payload = payload_bytes(alloc, &prev, &hdr, next)?;
     let sign = sign_payload(alloc, suite, index, signer.as_list(), payload)?;
@@ -84,19 +96,29 @@ fn next_entry<S: Suite>(
     })
 }
 
-ghost use Rattle.std.specs.Prelude.{option_map};
-ghost use Rattle.hash_hmac.specs.Hashing.{hashed};
-ghost use Rattle.hash_hmac.specs.Value.{hash_value};
 ghost use Rattle.voucher_chain.specs.Chain.{front, last_bytes};
 ghost use Rattle.voucher_chain.specs.Entry.{item_of_payload};
+ghost use Rattle.voucher_chain.specs.Extended.{hash_kind};
+ghost use Rattle.voucher_chain.specs.Match.{IsHashOf};
 
-/// The hash of what stands before the next entry.
-fn hash_before(kind: i64, voucher: &Voucher) -> Option<Hash>
-    ensures { result ≡ option_map (hash_value kind) (hashed kind (last_bytes (front voucher.now) voucher.now.entries)) }
+/// What stands before the next entry, as two texts in a row.
+fn texts_before(voucher: &Voucher) -> (&[u8], &[u8])
+    ensures { result.0.now ++ result.1.now ≡ last_bytes (front voucher.now) voucher.now.entries }
 {
     match voucher.entries.as_list().last() {
-        Some(entry) => hash_of(kind, entry.raw.as_list(), &[]),
-        None => hash_of(kind, voucher.header.raw.as_list(), voucher.hmac_raw.as_list()),
+        Some(entry) => (entry.raw.as_list(), &[]),
+        None => (voucher.header.raw.as_list(), voucher.hmac_raw.as_list()),
+    }
+}
+
+/// The hash of two texts in a row, of the kind of a strength.
+fn hash_by(bits: u16, first: &[u8], second: &[u8]) -> Hash
+    ensures kind { result.kind ≡ hash_kind bits }
+    ensures hash { IsHashOf result (first.now ++ second.now) }
+{
+    match hash_of(hash_kind_of(bits), first, second) {
+        Some(hash) => hash,
+        None => unreachable!(),
     }
 }
 

@@ -140,12 +140,14 @@ fn read_parts(
 ) -> Result<Option<Voucher>, NoMemory>
     ensures { IfOk result (λ value. value ≡ voucher_values voucher.now.spot header.now.spot hmac.now.spot chain.now.spot entries.now.spot) }
 {
+    let Some(mac) = read_mac(alloc, hmac)? else {
+        return Ok(None);
+    };
     let header = read_header_part(alloc, header)?;
-    let mac = read_mac(alloc, hmac)?;
     let chain = read_certificates(alloc, chain)?;
     let entries = read_entries(alloc, entries)?;
-    match (header, mac, chain, entries) {
-        (Some(header), Some(mac), Some(chain), Some(entries)) => Ok(Some(Voucher {
+    match (header, chain, entries) {
+        (Some(header), Some(chain), Some(entries)) => Ok(Some(Voucher {
             raw: Blob::from_slice(alloc, voucher.raw())?,
             header,
             hmac: mac,
