@@ -47,7 +47,7 @@ integer_short (negsuc n) = omega (arith, ap (λ (x : Item). length (det x)) (sym
 header_is : (k v : Item) → det (items.Map ((k, v) ∷ [])) ≡ head 5 1 ++ ((det k ++ det v) ++ [])
 header_is k v = ap det (sym (items.rolls-Map ((k, v) ∷ []))) ∙ det_map ((k, v) ∷ [])
 
-header_short : (alg : ℤ) → length (protected_of alg) ≤ 27
+pub header_short : (alg : ℤ) → length (protected_of alg) ≤ 27
 unfolding protected_of
 header_short alg =
     let k = det (items.Uint 1) in

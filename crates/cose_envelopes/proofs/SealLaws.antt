@@ -80,3 +80,33 @@ unfolding opening_etm
 read_opens_etm bits opens alg size key iv plain payload bytes known read inner =
     let tag = hmac_sha256 (drop 16 key) (mac0_structure (protected_of mac_number) payload) in
     ap (λ (told : Result Mac0 ℕ). of_shape told (opened_mac bits opens alg key)) read ∙ (rw (known, same_bytes tag, inner) refl)
+
+-- ---- as the writers answer
+
+pub written_sealed : (seals : Seals) (alg : ℤ) (key iv plain : List ℕ) (v : Encrypt0) (r : Result (List ℕ) NoMemory) → v ≡ sealed_value seals alg key iv plain → IfOk r (λ bytes. bytes ≡ det (item_of_encrypt0 v))
+    → IfOk r (λ bytes. bytes ≡ sealed_bytes seals alg key iv plain)
+unfolding sealed_bytes
+written_sealed seals alg key iv plain v (Ok bytes) is e = e ∙ ap (λ (w : Encrypt0). det (item_of_encrypt0 w)) is
+written_sealed seals alg key iv plain v (Err f) is e = tt
+
+pub written_opened : (bits : ℤ → Option ℕ) (opens : Opens) (seals : Seals) (alg : ℤ) (size : ℕ) (key iv plain : List ℕ) (v : Encrypt0) (r : Result (List ℕ) NoMemory) → OpensSealed bits opens seals → bits alg ≡ Some size
+    → (size ≡ 128) ⊎ (size ≡ 256) → length key ≡ 32 → length iv ≡ 12 → length plain ≤ 16777216 → v ≡ sealed_value seals alg (key_front size key) iv plain → IfOk r (λ bytes. IsEncrypt0 bytes v)
+    → IfOk r (λ bytes. opening bits opens alg key bytes ≡ Ok (iv, plain))
+written_opened bits opens seals alg size key iv plain v (Ok bytes) law known sized len iv_len small is said =
+    read_opens bits opens seals alg size key iv plain bytes law known sized len iv_len small (subst (IsEncrypt0 bytes) is said)
+written_opened bits opens seals alg size key iv plain v (Err f) law known sized len iv_len small is said = tt
+
+pub written_maced : (v w : Mac0) (r : Result (List ℕ) NoMemory) → v ≡ w → IfOk r (λ bytes. IsMac0 bytes v) → IfOk r (λ bytes. mac0_at bytes ≡ Ok w)
+written_maced v w (Ok bytes) is said = says_again mac0_in mac0_place bytes w (subst (IsMac0 bytes) is said)
+written_maced v w (Err f) is said = tt
+
+pub written_etm : (seals : Seals) (key iv plain payload : List ℕ) (r : Result (List ℕ) NoMemory) → payload ≡ sealed_bytes seals inner_number (key_front 128 key) iv plain
+    → IfOk r (λ bytes. bytes ≡ det (item_of_mac0 (maced_value (drop 16 key) payload))) → IfOk r (λ bytes. bytes ≡ sealed_etm seals key iv plain)
+unfolding sealed_etm
+written_etm seals key iv plain payload (Ok bytes) is e = e ∙ ap (λ (b : List ℕ). det (item_of_mac0 (maced_value (drop 16 key) b))) is
+written_etm seals key iv plain payload (Err f) is e = tt
+
+pub written_opened_etm : (bits : ℤ → Option ℕ) (opens : Opens) (alg : ℤ) (size : ℕ) (key iv plain payload : List ℕ) (r : Result (List ℕ) NoMemory) → bits alg ≡ Some size
+    → opening bits opens inner_number key payload ≡ Ok (iv, plain) → IfOk r (λ bytes. mac0_at bytes ≡ Ok (maced_value (drop 16 key) payload)) → IfOk r (λ bytes. opening_etm bits opens alg key bytes ≡ Ok (iv, plain))
+written_opened_etm bits opens alg size key iv plain payload (Ok bytes) known inner read = read_opens_etm bits opens alg size key iv plain payload bytes known read inner
+written_opened_etm bits opens alg size key iv plain payload (Err f) known inner read = tt

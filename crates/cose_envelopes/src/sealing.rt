@@ -110,7 +110,7 @@ fn front(bits: u16, key: &[u8; 32]) -> &[u8]
 /// The IV and the plain text of an Encrypt0, all of the bytes, under the first bits of a key. The refusals come in this
 /// order: `BadShape`; `NoAlgorithm(alg)`, exactly where `key_bits` gives none or the envelope names another algorithm;
 /// `NotOpened`. `NoMemory` may come at any place.
-#[tactic(auto, using(crate::proofs::OpenLaws::opening_read, crate::proofs::OpenLaws::opening_fails))]
+#[tactic(auto, using(crate::proofs::OpenLaws::opening_fails))]
 pub fn open<S: Suite>(
     alloc: Global,
     suite: &mut S,

@@ -108,7 +108,7 @@ fn tag_of(alloc: Global, key: &[u8; 32], text: &[u8]) -> Result<Blob, NoMemory>
 /// `NoAlgorithm(alg)`, exactly where `key_bits` gives none or the Mac0 names another algorithm than HMAC-SHA-256;
 /// `NotOpened`, exactly where the tag is wrong, or the payload is no Encrypt0, names another algorithm or does not hold.
 /// `NoMemory` may come at any place.
-#[tactic(auto, using(crate::proofs::OpenLaws::opening_mac_read, crate::proofs::OpenLaws::opening_mac_fails))]
+#[tactic(auto, using(crate::proofs::OpenLaws::opening_mac_fails))]
 pub fn open_etm<S: Suite>(
     alloc: Global,
     suite: &mut S,
