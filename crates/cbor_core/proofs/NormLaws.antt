@@ -1,16 +1,15 @@
 -- Items that are made: their norm, how they are fit to be written, and what their parts say.
-use Rattle.std.proofs.Common.{◌≡◌, ℕ, suc, ◌^◌, ◌<◌, ◌≤◌, ℤ, pos, negsuc, List, [], ◌∷◌, ◌++◌, map, length, Some, refl, sym, ap, subst, ◌∙◌, arith, true, false, Bool}
+use Rattle.std.proofs.Common.{◌≡◌, ℕ, suc, ◌^◌, ◌<◌, ◌≤◌, ℤ, pos, negsuc, List, [], ◌∷◌, map, length, Some, refl, sym, ap, subst, ◌∙◌, arith, true, false, Bool}
 use Rattle.std.specs.Prelude.{nat_lt, if◌then◌else◌, option_and_then, ◌+◌, ◌*◌}
 use Rattle.std.specs.Int.{w8, w16, w32, w64, to_be_bytes}
 use Rattle.std.specs.List.{AllByRecursion}
 use Rattle.std.proofs.lemmas.Bool.{lt-ltb, eq-eqb}
-use Rattle.std.proofs.lemmas.List.{length-append}
 use Rattle.cbor_core.specs.declared.item.Item.{Item, out-Item}
 use Rattle.cbor_core.specs.declared.item.Item.TheOpen.{Item-F}
 use Rattle.cbor_core.specs.declared.item.Item.TheFolds.{fold-roll-Item}
 use Rattle.cbor_core.specs.declared.item.Item.TheVariants as items
 use Rattle.cbor_core.specs.Head.{head}
-use Rattle.cbor_core.specs.Deterministic.{det, det_step}
+use Rattle.cbor_core.specs.Deterministic.{det}
 use Rattle.cbor_core.specs.Norm.{norm, norm_step, in_order, IsFit, IsFitLayer, IsFitWithin}
 use Rattle.cbor_core.specs.Numbers.{integer_layer, integer_in, item_of_integer, IsI64}
 use Rattle.cbor_core.specs.Shapes.{three_items, four_items, three_of, four_of, array_layer, pairs_layer, tagged_layer, tagged_in}

@@ -1,5 +1,5 @@
 -- The protected header that names an algorithm, and the additional data made of it.
-use Rattle.std.proofs.Common.{◌≡◌, ℕ, ℤ, ◌+◌, ◌≤◌, pos, negsuc, List, [], ◌∷◌, ◌++◌, length, codes, Option, Some, Result, Ok, Err, IfOk, SFits, w64, refl, sym, ap, ◌∙◌, arith, lit<, subst}
+use Rattle.std.proofs.Common.{◌≡◌, ℕ, ℤ, ◌+◌, ◌≤◌, pos, negsuc, List, [], ◌∷◌, ◌++◌, length, codes, Option, Some, Result, Ok, Err, IfOk, SFits, w64, refl, sym, ap, ◌∙◌, arith, lit<}
 use Rattle.std.proofs.lemmas.List.{length-append}
 use Rattle.cbor_core.specs.declared.no_memory.NoMemory.{NoMemory}
 use Rattle.cbor_core.specs.declared.item.Item.{Item}

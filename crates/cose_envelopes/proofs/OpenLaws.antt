@@ -1,5 +1,5 @@
 -- What an envelope that was read is opened as.
-use Rattle.std.proofs.Common.{◌≡◌, ℕ, ℤ, List, Bool, Option, Some, None, Result, Ok, Err, refl, sym, ap, subst, ◌∙◌}
+use Rattle.std.proofs.Common.{ℕ, ℤ, List, Option, Result, Ok, Err, sym, ap, subst}
 use Rattle.cose_envelopes.specs.declared.encrypt0.Encrypt0.{Encrypt0}
 use Rattle.cose_envelopes.specs.declared.mac0.Mac0.{Mac0}
 use Rattle.cose_envelopes.specs.declared.fault.CoseFault.{CoseFault}

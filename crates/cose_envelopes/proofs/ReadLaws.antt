@@ -1,5 +1,5 @@
 -- What is read is what the bytes say.
-use Rattle.std.proofs.Common.{◌≡◌, ℕ, List, Option, Result, Ok, Err, IfOk, subst}
+use Rattle.std.proofs.Common.{ℕ, List, Option, Result, Ok, Err, IfOk, subst}
 use Rattle.cbor_core.specs.declared.item.Item.{Item}
 use Rattle.cbor_core.specs.Spots.{Spot}
 use Rattle.cbor_core.specs.Whole.{said_at, Says}

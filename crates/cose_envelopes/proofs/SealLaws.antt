@@ -1,6 +1,5 @@
 -- What is sealed is opened under the same key.
-use Rattle.std.proofs.Common.{◌≡◌, ℕ, ◌*◌, ◌/◌, ◌<◌, ◌≤◌, ◌^◌, ℤ, pos, negsuc, List, [], ◌∷◌, length, take, drop, true, Option, Some, None, Result, Ok, Err, IfOk, refl, sym, ap, subst, ◌∙◌, arith, lit<, ◌⊎◌, inl, inr}
-use Rattle.std.specs.Prelude.{is_some}
+use Rattle.std.proofs.Common.{◌≡◌, ℕ, ◌*◌, ◌/◌, ◌<◌, ◌≤◌, ◌^◌, ℤ, List, [], ◌∷◌, length, drop, true, Option, Some, Result, Ok, Err, IfOk, refl, ap, subst, ◌∙◌, arith, lit<, ◌⊎◌, inl, inr}
 use Rattle.std.specs.Ordering.{int_eq}
 use Rattle.std.specs.Str.{bytes_eq}
 use Rattle.std.proofs.lemmas.Bool.Decides.{Decides-int_eq}
@@ -16,7 +15,7 @@ use Rattle.cose_envelopes.specs.declared.encrypt0.Encrypt0.{Encrypt0}
 use Rattle.cose_envelopes.specs.declared.mac0.Mac0.{Mac0}
 use Rattle.cose_envelopes.specs.Envelope.{algorithm_in, protected_of, encrypt0_in, mac0_in, IsEncrypt0, IsMac0, IsWhole0, IsWholeMac, item_of_encrypt0, item_of_mac0}
 use Rattle.cose_envelopes.specs.Places.{encrypt0_place, mac0_place}
-use Rattle.cose_envelopes.specs.Opening.{encrypt0_at, mac0_at, key_front, inner_number, mac_number, sealed_value, sealed_bytes, maced_value, sealed_etm, of_shape, opened_by, opening, opened_mac, or_not_opened, opening_etm}
+use Rattle.cose_envelopes.specs.Opening.{encrypt0_at, mac0_at, key_front, inner_number, mac_number, sealed_value, sealed_bytes, maced_value, sealed_etm, of_shape, opened_by, opening, opened_mac, opening_etm}
 use Rattle.cose_envelopes.specs.Text.{encrypt0_structure, mac0_structure}
 use Rattle.cose_envelopes.proofs.HeaderLaws.{aad_short}
 
@@ -25,16 +24,16 @@ use Rattle.cose_envelopes.proofs.HeaderLaws.{aad_short}
 pub whole_encrypt0 : (v : Encrypt0) → length v.protected < 2 ^ 64 → length v.iv ≡ 12 → length v.sealed < 2 ^ 64 → algorithm_in v.protected ≡ Some v.alg → IsWhole0 v
 whole_encrypt0 v p iv s names = record {
   fit = fit_tag 15 16 (items.Array (items.Bytes v.protected ∷ items.Map ((items.Uint 5, items.Bytes v.iv) ∷ []) ∷ items.Bytes v.sealed ∷ [])) (lit< tt)
-  (fit_array 14 (items.Bytes v.protected ∷ items.Map ((items.Uint 5, items.Bytes v.iv) ∷ []) ∷ items.Bytes v.sealed ∷ []) (lit< tt)
-  (fit_bytes 13 v.protected p, (fit_map 13 ((items.Uint 5, items.Bytes v.iv) ∷ []) (lit< tt) ((fit_uint 12 5 (lit< tt), fit_bytes 12 v.iv (omega arith)), tt), (fit_bytes 13 v.sealed s, tt))));
+      (fit_array 14 (items.Bytes v.protected ∷ items.Map ((items.Uint 5, items.Bytes v.iv) ∷ []) ∷ items.Bytes v.sealed ∷ []) (lit< tt)
+      (fit_bytes 13 v.protected p, (fit_map 13 ((items.Uint 5, items.Bytes v.iv) ∷ []) (lit< tt) ((fit_uint 12 5 (lit< tt), fit_bytes 12 v.iv (omega arith)), tt), (fit_bytes 13 v.sealed s, tt))));
   names = names;
 }
 
 pub whole_mac0 : (v : Mac0) → length v.protected < 2 ^ 64 → length v.payload < 2 ^ 64 → length v.tag < 2 ^ 64 → algorithm_in v.protected ≡ Some v.alg → IsWholeMac v
 whole_mac0 v p b t names = record {
   fit = fit_tag 15 17 (items.Array (items.Bytes v.protected ∷ items.Map [] ∷ items.Bytes v.payload ∷ items.Bytes v.tag ∷ [])) (lit< tt)
-  (fit_array 14 (items.Bytes v.protected ∷ items.Map [] ∷ items.Bytes v.payload ∷ items.Bytes v.tag ∷ []) (lit< tt)
-  (fit_bytes 13 v.protected p, (fit_map 13 [] (lit< tt) tt, (fit_bytes 13 v.payload b, (fit_bytes 13 v.tag t, tt)))));
+      (fit_array 14 (items.Bytes v.protected ∷ items.Map [] ∷ items.Bytes v.payload ∷ items.Bytes v.tag ∷ []) (lit< tt)
+      (fit_bytes 13 v.protected p, (fit_map 13 [] (lit< tt) tt, (fit_bytes 13 v.payload b, (fit_bytes 13 v.tag t, tt)))));
   names = names;
 }
 

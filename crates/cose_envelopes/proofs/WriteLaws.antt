@@ -1,17 +1,15 @@
 -- What is written is read as it was.
-use Rattle.std.proofs.Common.{◌≡◌, ℕ, List, [], ◌∷◌, map, length, Some, Result, Ok, Err, IfOk, refl, sym, ap, subst, ◌∙◌}
+use Rattle.std.proofs.Common.{◌≡◌, ℕ, List, [], ◌∷◌, length, Some, Result, Ok, Err, IfOk, refl, sym, ap, subst, ◌∙◌}
 use Rattle.std.proofs.lemmas.Bool.{eq-eqb}
-use Rattle.cbor_core.specs.declared.item.Item.{Item, out-Item}
 use Rattle.cbor_core.specs.declared.item.Item.TheVariants as items
 use Rattle.cbor_core.specs.declared.no_memory.NoMemory.{NoMemory}
 use Rattle.cbor_core.specs.Deterministic.{det}
 use Rattle.cbor_core.specs.Norm.{norm}
-use Rattle.cbor_core.specs.Numbers.{integer_in}
 use Rattle.cbor_core.proofs.NormLaws.{norm_uint, norm_bytes, norm_array, norm_map, norm_one, norm_none, norm_tag, integer_back, content_back, pairs_back, three_back, four_back, tagged_back, fit_said}
 use Rattle.cose_envelopes.specs.declared.encrypt0.Encrypt0.{Encrypt0}
 use Rattle.cose_envelopes.specs.declared.mac0.Mac0.{Mac0}
 use Rattle.cose_envelopes.specs.declared.sign1.Sign1.{Sign1}
-use Rattle.cose_envelopes.specs.Envelope.{algorithm_in, iv_in, normed_pairs, norm_sign1, sign1_of, sign1_in, sign1_content, item_of_sign1, IsSign1, IsWhole1, mac0_of, mac0_in, mac0_content, item_of_mac0, IsMac0, IsWholeMac, encrypt0_of, encrypt0_in, encrypt0_content, item_of_encrypt0, IsEncrypt0, IsWhole0}
+use Rattle.cose_envelopes.specs.Envelope.{algorithm_in, iv_in, norm_sign1, sign1_in, item_of_sign1, IsSign1, IsWhole1, mac0_in, item_of_mac0, IsMac0, IsWholeMac, encrypt0_in, item_of_encrypt0, IsEncrypt0, IsWhole0}
 use Rattle.std.proofs.Common.{pos, lit<}
 
 -- ---- Sign1

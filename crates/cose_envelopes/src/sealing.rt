@@ -100,11 +100,7 @@ fn front(bits: u16, key: &[u8; 32]) -> &[u8]
     ensures front { result.now ≡ key_front bits key.now }
     ensures size { bits ≡ 8 * length result.now }
 {
-    if bits == 128 {
-        key.split_at(16).0
-    } else {
-        key
-    }
+    if bits == 128 { key.split_at(16).0 } else { key }
 }
 
 /// The IV and the plain text of an Encrypt0, all of the bytes, under the first bits of a key. The refusals come in this

@@ -22,7 +22,16 @@ pub(crate) fn mac0_text(alloc: Global, protected: &[u8], payload: &[u8]) -> Resu
     structure(alloc, "MAC0", protected, payload)
 }
 
-/// A context, a protected header, external data of no bytes and a payload.
+/// The additional data with which an Encrypt0 is sealed (RFC 9052, section 5.3).
+#[tactic(auto, unfolding(crate::specs::Text::encrypt0_structure))]
+pub(crate) fn encrypt0_text(alloc: Global, protected: &[u8]) -> Result<Blob, NoMemory>
+    ensures { IfOk result (λ text. text ≡ encrypt0_structure protected.now) }
+{
+    let parts = first_parts(alloc, "Encrypt0", protected)?;
+    write_det(alloc, &Item::Array(parts))
+}
+
+/// The text of a context, a protected header, no external data and a payload.
 fn structure(
     alloc: Global,
     context: &str,
@@ -31,22 +40,18 @@ fn structure(
 ) -> Result<Blob, NoMemory>
     ensures { IfOk result (λ text. text ≡ det (items.Array (items.Text context.now ∷ items.Bytes protected.now ∷ items.Bytes [] ∷ items.Bytes payload.now ∷ []))) }
 {
-    let mut parts = Items::new(alloc);
-    parts.push(Item::Text(Text::from_str(alloc, context)?))?;
-    parts.push(Item::Bytes(Blob::from_slice(alloc, protected)?))?;
-    parts.push(Item::Bytes(Blob::new(Vec::new(alloc))))?;
+    let mut parts = first_parts(alloc, context, protected)?;
     parts.push(Item::Bytes(Blob::from_slice(alloc, payload)?))?;
     write_det(alloc, &Item::Array(parts))
 }
 
-/// The additional data with which an Encrypt0 is sealed (RFC 9052, section 5.3).
-#[tactic(auto, unfolding(crate::specs::Text::encrypt0_structure))]
-pub(crate) fn encrypt0_text(alloc: Global, protected: &[u8]) -> Result<Blob, NoMemory>
-    ensures { IfOk result (λ text. text ≡ encrypt0_structure protected.now) }
+/// A context, a protected header, and external data of no bytes.
+fn first_parts(alloc: Global, context: &str, protected: &[u8]) -> Result<Items, NoMemory>
+    ensures { IfOk result (λ parts. parts ≡ items.Text context.now ∷ items.Bytes protected.now ∷ items.Bytes [] ∷ []) }
 {
     let mut parts = Items::new(alloc);
-    parts.push(Item::Text(Text::from_str(alloc, "Encrypt0")?))?;
+    parts.push(Item::Text(Text::from_str(alloc, context)?))?;
     parts.push(Item::Bytes(Blob::from_slice(alloc, protected)?))?;
     parts.push(Item::Bytes(Blob::new(Vec::new(alloc))))?;
-    write_det(alloc, &Item::Array(parts))
+    Ok(parts)
 }

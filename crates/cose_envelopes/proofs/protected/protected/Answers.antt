@@ -1,8 +1,6 @@
-use Rattle.std.proofs.Common.{◌≡◌, IfOk, subst}
+use Rattle.std.proofs.Common.{◌≡◌}
 use Rattle.std.proofs.Math.Facts.{to_z-of_z}
-use Rattle.cbor_core.specs.declared.item.Item.{Item}
-use Rattle.cbor_core.specs.Deterministic.{det}
-use Rattle.cose_envelopes.specs.Envelope.{header_of, protected_of}
+use Rattle.cose_envelopes.specs.Envelope.{header_of}
 use Rattle.cose_envelopes.proofs.HeaderLaws.{is_i64, written_header, names_said}
 use Rattle.cose_envelopes.proofs.protected.protected.Goals as goal
 

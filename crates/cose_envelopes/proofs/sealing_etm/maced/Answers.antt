@@ -1,4 +1,4 @@
-use Rattle.std.proofs.Common.{pos, ap, sym, length, arith}
+use Rattle.std.proofs.Common.{pos, ap, length, arith}
 use Rattle.cose_envelopes.proofs.HeaderLaws.{header_short}
 use Rattle.cose_envelopes.proofs.SealLaws.{whole_mac0}
 use Rattle.cose_envelopes.proofs.sealing_etm.maced.Goals as goal
