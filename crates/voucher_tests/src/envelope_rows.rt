@@ -1,7 +1,9 @@
 //! Cases of readers and writers of envelopes, with answers of a reader in Python.
 
 /// Bytes that are no Sign1, and where their first fault stands.
-pub(crate) static SIGN1_FAULTS: [(&str, usize); 30] = [
+pub(crate) static SIGN1_FAULTS: [(&str, usize); 32] = [
+    ("d08343a10103a1054c0102030405060708090a0b0c467365616c6564", 0),
+    ("d28443a10126a0477061796c6f6164437369", 15),
     ("d28400a0477061796c6f616443736967", 2),
     ("d28443a1012600477061796c6f616443736967", 6),
     ("d28443a10126a00043736967", 7),
@@ -35,7 +37,8 @@ pub(crate) static SIGN1_FAULTS: [(&str, usize); 30] = [
 ];
 
 /// Bytes that are no Mac0, and where their first fault stands.
-pub(crate) static MAC0_FAULTS: [(&str, usize); 30] = [
+pub(crate) static MAC0_FAULTS: [(&str, usize); 31] = [
+    ("d08343a10103a1054c0102030405060708090a0b0c467365616c6564", 0),
     ("d18400a0477061796c6f616443746167", 2),
     ("d18443a1010500477061796c6f616443746167", 6),
     ("d18443a10105a00043746167", 7),
@@ -69,7 +72,8 @@ pub(crate) static MAC0_FAULTS: [(&str, usize); 30] = [
 ];
 
 /// Bytes that are no Encrypt0, and where their first fault stands.
-pub(crate) static ENCRYPT0_FAULTS: [(&str, usize); 37] = [
+pub(crate) static ENCRYPT0_FAULTS: [(&str, usize); 38] = [
+    ("d18443a10105a0477061796c6f616443746167", 0),
     ("d08300a1054c0102030405060708090a0b0c467365616c6564", 2),
     ("d08343a1010300467365616c6564", 6),
     ("d08343a10103a1054c0102030405060708090a0b0c00", 21),
