@@ -1,7 +1,7 @@
 -- Where the first part stands that is not of its form, in an item that is no envelope: the offset of its head. A fault
 -- inside a byte string has the offset of that string's head.
-use Rattle.std.specs.Prelude.{ℕ, pos, Bool, ◌&&◌, Option, Some, None, is_some, if◌then◌else◌}
-use Rattle.cbor_core.specs.declared.item.Item.{Item, out-Item}
+use Rattle.std.specs.Prelude.{ℕ, pos, Bool, Option, Some, None, is_some, if◌then◌else◌}
+use Rattle.cbor_core.specs.declared.item.Item.{out-Item}
 use Rattle.cbor_core.specs.Shapes.{is_map, three_spots, four_spots, labelled_at, tagged_at}
 use Rattle.cbor_core.specs.Spots.{Spot, spot_item}
 use Rattle.cose_envelopes.specs.Envelope.{bytes_of, header_in, iv_in}

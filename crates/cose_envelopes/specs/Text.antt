@@ -1,7 +1,6 @@
 -- What is signed, sealed and authenticated: the Sig_structure (RFC 9052, section 4.4), the Enc_structure (section 5.3) and
 -- the MAC_structure (section 6.3), in the deterministic encoding. There is never external data, so its bytes are empty.
 use Rattle.std.specs.Prelude.{ℕ, List, [], ◌∷◌, codes}
-use Rattle.cbor_core.specs.declared.item.Item.{Item}
 use Rattle.cbor_core.specs.declared.item.Item.TheVariants as items
 use Rattle.cbor_core.specs.Deterministic.{det}
 

@@ -12,10 +12,7 @@ use cbor_core::{Blob, Item, NoMemory, Pairs, Part, exactly};
 use std::alloc::Global;
 
 /// A protected header, with the algorithm that it names.
-pub(crate) fn read_protected(
-    alloc: Global,
-    part: &Part,
-) -> Result<Option<(Blob, i64)>, NoMemory>
+pub(crate) fn read_protected(alloc: Global, part: &Part) -> Result<Option<(Blob, i64)>, NoMemory>
     ensures { IfOk result (λ header. header ≡ header_in (spot_item part.now.spot)) }
 {
     match part.bytes(alloc)? {

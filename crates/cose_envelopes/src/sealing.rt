@@ -1,15 +1,17 @@
-ghost use Rattle.std.specs.Prelude.{◌≡◌, ◌≤◌, ◌/◌, length, Ok, IfOk};
+ghost use Rattle.std.specs.Prelude.{◌≡◌, ◌≤◌, ◌*◌, ◌/◌, ◌⊎◌, length, Some, Ok, IfOk};
 ghost use Rattle.std.specs.Option.{option_map};
+ghost use Rattle.cose_envelopes.specs.Envelope.{IsWhole0};
 ghost use Rattle.cose_envelopes.specs.Fault.{Answers, known};
-ghost use Rattle.cose_envelopes.specs.Opening.{key_front, sealed_bytes, opening};
+ghost use Rattle.cose_envelopes.specs.Opening.{key_front, sealed_value, sealed_bytes, encrypt0_at, opened, opened_by, opening};
+ghost use Rattle.cose_envelopes.specs.Text.{encrypt0_structure};
 
 use crate::encrypt0::{Encrypt0, read_encrypt0, write_encrypt0};
 use crate::fault::CoseFault;
 use crate::protected::protected;
 use crate::text::encrypt0_text;
-use cbor_core::Blob;
+use cbor_core::{Blob, NoMemory};
 use std::alloc::Global;
-use suite_port::{Suite, SuiteFault};
+use suite_port::Suite;
 
 /// The written Encrypt0 of a plain text of at most 16,777,216 bytes, under the first bits of a key. Its only refusals are
 /// `NoAlgorithm(alg)`, exactly where `key_bits` gives none, and `NoMemory`.
@@ -29,29 +31,82 @@ pub fn seal<S: Suite>(
     ensures held { S.Holder.held suite.new ≡ S.Holder.held suite.old }
     ensures faults { S.Holder.faults suite.new ≡ S.Holder.faults suite.old }
 {
-    let Some(bits) = suite.key_bits(alg) else {
-        return Err(CoseFault::NoAlgorithm(alg));
-    };
+    match suite.key_bits(alg) {
+        Some(bits) => match seal_with(alloc, suite, alg, bits, key, iv, plain) {
+            Ok(bytes) => Ok(bytes),
+            Err(_) => Err(CoseFault::NoMemory),
+        },
+        None => Err(CoseFault::NoAlgorithm(alg)),
+    }
+}
+
+/// The written Encrypt0, under an algorithm that the suite has.
+pub(crate) fn seal_with<S: Suite>(
+    alloc: Global,
+    suite: &mut S,
+    alg: i64,
+    bits: u16,
+    key: &[u8; 32],
+    iv: &[u8; 12],
+    plain: &[u8],
+) -> Result<Blob, NoMemory>
+    requires size { (bits ≡ 128) ⊎ (bits ≡ 256) }
+    requires bits { S.Aead.bits alg ≡ Some bits }
+    requires plain { length plain.now ≤ 16777216 }
+    ensures sealed { IfOk result (λ bytes. bytes ≡ sealed_bytes S.Aead.seals alg (key_front bits key.now) iv.now plain.now) }
+    ensures opened { IfOk result (λ bytes. opening S.Aead.bits S.Aead.opens alg key.now bytes ≡ Ok (iv.now, plain.now)) }
+    ensures held { S.Holder.held suite.new ≡ S.Holder.held suite.old }
+    ensures faults { S.Holder.faults suite.new ≡ S.Holder.faults suite.old }
+{
+    let value = seal_value(alloc, suite, alg, bits, key, iv, plain)?;
+    write_encrypt0(alloc, &value)
+}
+
+/// The Encrypt0 of a plain text.
+fn seal_value<S: Suite>(
+    alloc: Global,
+    suite: &mut S,
+    alg: i64,
+    bits: u16,
+    key: &[u8; 32],
+    iv: &[u8; 12],
+    plain: &[u8],
+) -> Result<Encrypt0, NoMemory>
+    requires size { (bits ≡ 128) ⊎ (bits ≡ 256) }
+    requires bits { S.Aead.bits alg ≡ Some bits }
+    requires plain { length plain.now ≤ 16777216 }
+    ensures value { IfOk result (λ value. value ≡ sealed_value S.Aead.seals alg (key_front bits key.now) iv.now plain.now) }
+    ensures whole { IfOk result IsWhole0 }
+    ensures held { S.Holder.held suite.new ≡ S.Holder.held suite.old }
+    ensures faults { S.Holder.faults suite.new ≡ S.Holder.faults suite.old }
+{
     let protected = protected(alloc, alg)?;
     let aad = encrypt0_text(alloc, protected.as_list())?;
-    let front = key.split_at(bits as usize / 8).0;
+    let front = front(bits, key);
     match suite.seal(alloc, alg, front, iv, aad.as_list(), plain) {
-        Ok(sealed) => Ok(write_encrypt0(
-            alloc,
-            &Encrypt0 {
-                protected,
-                alg,
-                iv: *iv,
-                sealed: Blob::new(sealed),
-            },
-        )?),
-        Err(_) => Err(CoseFault::NoMemory),
+        Ok(sealed) => Ok(Encrypt0 {
+            protected,
+            alg,
+            iv: *iv,
+            sealed: Blob::new(sealed),
+        }),
+        Err(_) => Err(NoMemory),
     }
+}
+
+/// The first bits of a key.
+fn front(bits: u16, key: &[u8; 32]) -> &[u8]
+    requires { (bits ≡ 128) ⊎ (bits ≡ 256) }
+    ensures front { result.now ≡ key_front bits key.now }
+    ensures size { bits ≡ 8 * length result.now }
+{
+    if bits == 128 { key.split_at(16).0 } else { key }
 }
 
 /// The IV and the plain text of an Encrypt0, all of the bytes, under the first bits of a key. The refusals come in this
 /// order: `BadShape`; `NoAlgorithm(alg)`, exactly where `key_bits` gives none or the envelope names another algorithm;
 /// `NotOpened`. `NoMemory` may come at any place.
+#[tactic(auto, using(crate::proofs::OpenLaws::opening_fails))]
 pub fn open<S: Suite>(
     alloc: Global,
     suite: &mut S,
@@ -63,34 +118,54 @@ pub fn open<S: Suite>(
     ensures held { S.Holder.held suite.new ≡ S.Holder.held suite.old }
     ensures faults { S.Holder.faults suite.new ≡ S.Holder.faults suite.old }
 {
-    let value = read_encrypt0(alloc, bytes)?;
-    match suite.key_bits(alg) {
-        Some(bits) if value.alg == alg => open_with(alloc, suite, bits, key, &value),
-        _ => Err(CoseFault::NoAlgorithm(alg)),
+    match read_encrypt0(alloc, bytes) {
+        Ok(value) => open_value(alloc, suite, alg, key, &value),
+        Err(fault) => Err(fault),
     }
 }
 
-ghost use Rattle.std.specs.Prelude.{Some};
-ghost use Rattle.cose_envelopes.specs.Opening.{opened};
-ghost use Rattle.cose_envelopes.specs.Text.{encrypt0_structure};
+fn open_value<S: Suite>(
+    alloc: Global,
+    suite: &mut S,
+    alg: i64,
+    key: &[u8; 32],
+    value: &Encrypt0,
+) -> Result<([u8; 12], Blob), CoseFault>
+    ensures answer { Answers (opened_by S.Aead.opens alg key.now value.now (S.Aead.bits alg)) result }
+    ensures held { S.Holder.held suite.new ≡ S.Holder.held suite.old }
+    ensures faults { S.Holder.faults suite.new ≡ S.Holder.faults suite.old }
+{
+    match suite.key_bits(alg) {
+        Some(bits) => {
+            if value.alg == alg {
+                open_with(alloc, suite, alg, bits, key, value)
+            } else {
+                Err(CoseFault::NoAlgorithm(alg))
+            }
+        }
+        None => Err(CoseFault::NoAlgorithm(alg)),
+    }
+}
 
 fn open_with<S: Suite>(
     alloc: Global,
     suite: &mut S,
+    alg: i64,
     bits: u16,
     key: &[u8; 32],
     value: &Encrypt0,
 ) -> Result<([u8; 12], Blob), CoseFault>
-    requires { S.Aead.bits value.now.alg ≡ Some bits }
-    ensures answer { Answers (opened value.now.iv (S.Aead.opens value.now.alg (key_front bits key.now) value.now.iv (encrypt0_structure value.now.protected) value.now.sealed)) result }
+    requires size { (bits ≡ 128) ⊎ (bits ≡ 256) }
+    requires bits { S.Aead.bits alg ≡ Some bits }
+    ensures answer { Answers (opened value.now.iv (S.Aead.opens alg (key_front bits key.now) value.now.iv (encrypt0_structure value.now.protected) value.now.sealed)) result }
     ensures held { S.Holder.held suite.new ≡ S.Holder.held suite.old }
     ensures faults { S.Holder.faults suite.new ≡ S.Holder.faults suite.old }
 {
     let aad = encrypt0_text(alloc, value.protected.as_list())?;
-    let front = key.split_at(bits as usize / 8).0;
+    let front = front(bits, key);
     match suite.open(
         alloc,
-        value.alg,
+        alg,
         front,
         &value.iv,
         aad.as_list(),

@@ -66,13 +66,7 @@ pub fn verify<S: Suite>(
     ensures faults { S.Holder.faults suite.new ≡ S.Holder.faults suite.old }
 {
     let text = sign1_text(alloc, value.protected.as_list(), value.payload.as_list())?;
-    match suite.verify(
-        alloc,
-        key,
-        value.alg,
-        text.as_list(),
-        value.sig.as_list(),
-    ) {
+    match suite.verify(alloc, key, value.alg, text.as_list(), value.sig.as_list()) {
         Ok(true) => Ok(()),
         Ok(false) => Err(CoseFault::NotVerified),
         Err(SuiteFault::NoAlgorithm) => Err(CoseFault::NoAlgorithm(value.alg)),

@@ -1,0 +1,5 @@
+pub mod HeaderLaws
+pub mod OpenLaws
+pub mod ReadLaws
+pub mod SealLaws
+pub mod WriteLaws

@@ -1,0 +1,7 @@
+use Rattle.std.proofs.Math.Facts.{to_z-of_z}
+use Rattle.cose_envelopes.proofs.OpenLaws.{opening_read}
+use Rattle.cose_envelopes.proofs.sealing.open.Goals as goal
+
+pub returns-in-Ok-clause-answer : goal.returns-in-Ok-clause-answer
+returns-in-Ok-clause-answer g c =
+    opening_read g.S.Aead.bits g.S.Aead.opens c.args.alg c.args.key.now c.args.bytes.now c.in-Ok.value c.open_value.result c.in-Ok.ensures.exact (rw (to_z-of_z c.ranges.alg) at c.open_value.ensures.answer)

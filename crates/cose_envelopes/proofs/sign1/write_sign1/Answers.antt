@@ -1,0 +1,9 @@
+use Rattle.std.proofs.Common.{◌≡◌, IfOk, subst}
+use Rattle.cbor_core.specs.declared.item.Item.{Item}
+use Rattle.cbor_core.specs.Deterministic.{det}
+use Rattle.cose_envelopes.proofs.WriteLaws.{written_sign1}
+use Rattle.cose_envelopes.proofs.sign1.write_sign1.Goals as goal
+
+pub returns-clause-said : goal.returns-clause-said
+returns-clause-said c =
+    written_sign1 c.args.value.now c.write_det.result (subst (λ (x : Item). IfOk c.write_det.result (λ bytes. bytes ≡ det x)) c.in_ok-item.ensures c.write_det.ensures.value)
