@@ -1,5 +1,5 @@
 -- What the parts of a known form say, at their places and as items.
-use Rattle.std.proofs.Common.{◌≡◌, ℕ, ℤ, List, [], ◌∷◌, map, Bool, true, false, cond, Option, Some, None, refl, sym, ap, subst, ◌∙◌}
+use Rattle.std.proofs.Common.{◌≡◌, ℕ, ℤ, List, [], ◌∷◌, map, Bool, true, false, cond, Option, Some, None, refl, ap, ◌∙◌}
 use Rattle.std.specs.Prelude.{option_map, option_and_then, flat_map, if◌then◌else◌}
 use Rattle.cbor_core.specs.declared.item.Item.{Item, out-Item}
 use Rattle.cbor_core.specs.declared.item.Item.TheOpen.{Item-F}

@@ -180,7 +180,9 @@ fn five_parts<'a>(part: &Part<'a>) -> Option<(Part<'a>, Part<'a>, Part<'a>, Part
     }
 }
 
-fn six_parts<'a>(part: &Part<'a>) -> Option<(Part<'a>, Part<'a>, Part<'a>, Part<'a>, Part<'a>, Part<'a>)>
+fn six_parts<'a>(
+    part: &Part<'a>,
+) -> Option<(Part<'a>, Part<'a>, Part<'a>, Part<'a>, Part<'a>, Part<'a>)>
     ensures { option_map (λ p. (p.0.spot, p.1.spot, p.2.spot, p.3.spot, p.4.spot, p.5.spot)) result ≡ six_spots part.now.spot }
 {
     if !part.is_array() {

@@ -1,9 +1,7 @@
 -- The parts of arrays and maps, and byte strings (RFC 8949, section 3.1).
-use Rattle.std.specs.Prelude.{ℕ, ℤ, List, [], ◌∷◌, Bool, false, Option, Some, None, Result, Ok, option_and_then, if◌then◌else◌}
-use Rattle.std.specs.Ordering.{int_eq}
+use Rattle.std.specs.Prelude.{ℕ, ℤ, List, [], ◌∷◌, Result, Ok, option_and_then}
 use Rattle.cbor_core.specs.declared.item.Item.{Item, out-Item}
-use Rattle.cbor_core.specs.declared.item.Item.TheOpen.{Item-F}
-use Rattle.cbor_core.specs.Shapes.{array_layer, two_of, three_of, labelled, pairs_layer}
+use Rattle.cbor_core.specs.Shapes.{array_layer, two_of, three_of, labelled}
 use Rattle.cbor_core.specs.Spots.{bytes_in as bytes_layer}
 use Rattle.key_codec.specs.declared.fault.KeyFault.{KeyFault}
 use Rattle.key_codec.specs.Fault.{◌>>=◌, shaped}

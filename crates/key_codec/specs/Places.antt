@@ -2,8 +2,7 @@
 -- no signature information.
 use Rattle.std.specs.Prelude.{ℕ, ℤ, pos, negsuc, List, [], ◌∷◌, Bool, true, false, ◌||◌, ◌&&◌, Option, Some, None, is_some, if◌then◌else◌}
 use Rattle.std.specs.Ordering.{int_eq}
-use Rattle.cbor_core.specs.declared.item.Item.{Item, out-Item}
-use Rattle.cbor_core.specs.declared.item.Item.TheOpen.{Item-F}
+use Rattle.cbor_core.specs.declared.item.Item.{out-Item}
 use Rattle.cbor_core.specs.Spots.{Spot, spot_item, spot_parts, bytes_in}
 use Rattle.hash_hmac.specs.Kind.{length_of}
 use Rattle.key_codec.specs.declared.encoding.Form.{Form}

@@ -6,7 +6,7 @@ ghost use Rattle.key_codec.specs.Key.{item_of_key, item_of_body, item_of_cose};
 
 use crate::chain::X5Chain;
 use crate::key::{CoseKey, KeyBody, PublicKey};
-use cbor_core::{Blob, Item, Items, NoMemory, Pairs, write_det, integer_item};
+use cbor_core::{Blob, Item, Items, NoMemory, Pairs, integer_item, write_det};
 use std::alloc::Global;
 
 /// The item that a key is written as.

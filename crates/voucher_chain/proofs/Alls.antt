@@ -1,8 +1,8 @@
 -- The values of all, as far as they are read.
-use Rattle.std.proofs.Common.{◌≡◌, ℕ, List, [], ◌∷◌, ◌++◌, Option, Some, None, refl, sym, ap, ◌∙◌, append_assoc}
+use Rattle.std.proofs.Common.{◌≡◌, List, [], ◌∷◌, ◌++◌, Option, Some, None, refl, sym, ap, ◌∙◌, append_assoc}
 use Rattle.cbor_core.specs.Spots.{Spot, Standing, spots_of, first_of}
 use Rattle.cbor_core.proofs.SpotLaws.{spots_first}
-use Rattle.voucher_chain.specs.Fault.{◌>>=◌, all_in}
+use Rattle.voucher_chain.specs.Fault.{all_in}
 
 -- those read before, and the others
 abbrev pub with_front : {A : Type 0} → List A → Option (List A) → Option (List A)

@@ -1,5 +1,5 @@
 -- The chain of a voucher's owners, entry by entry.
-use Rattle.std.proofs.Common.{◌≡◌, ℕ, ℤ, zero, suc, ◌+◌, ◌-◌, ◌<◌, ◌≤◌, List, [], ◌∷◌, ◌++◌, length, drop, get_or, flat_map, Bool, true, false, Option, Some, None, Result, Ok, Err, IfOk, refl, sym, ap, subst, ◌∙◌, append_assoc, arith}
+use Rattle.std.proofs.Common.{◌≡◌, ℕ, ℤ, suc, ◌+◌, ◌-◌, ◌<◌, ◌≤◌, List, [], ◌∷◌, ◌++◌, length, drop, get_or, flat_map, Bool, true, false, Option, Some, None, Result, Ok, Err, IfOk, refl, sym, ap, subst, ◌∙◌, arith}
 use Rattle.std.specs.List.{slice_get}
 use Rattle.std.specs.Prelude.{◌&&◌, ◌==◌, if◌then◌else◌, option_map}
 use Rattle.std.specs.Ordering.{int_eq}
@@ -14,7 +14,6 @@ use Rattle.hash_hmac.specs.declared.hash.Hash.{Hash}
 use Rattle.hash_hmac.specs.Hashing.{hashed}
 use Rattle.hash_hmac.specs.Value.{hash_value}
 use Rattle.key_codec.specs.declared.key.PublicKey.{PublicKey}
-use Rattle.cose_envelopes.specs.declared.sign1.Sign1.{Sign1}
 use Rattle.voucher_chain.specs.declared.entry.Entry.{Entry}
 use Rattle.voucher_chain.specs.declared.header.Header.{Header}
 use Rattle.voucher_chain.specs.declared.voucher.Voucher.{Voucher}
@@ -23,7 +22,7 @@ use Rattle.voucher_chain.specs.declared.fault.ChainFault.TheVariants as fault
 use Rattle.voucher_chain.specs.Chain.{Verifies, Follows, Links, HasCertificates, Chain, information, signature_told, front, last_key, last_bytes, same_hash, told_break, hash_break, signature_break, entry_break, links_break, certificates_break, first_break, checked}
 use Rattle.voucher_chain.specs.Fault.{Fails, Answers, or_else}
 use Rattle.voucher_chain.specs.Match.{IsHashOf}
-use Rattle.voucher_chain.specs.Extended.{IsNext, IsExtended}
+use Rattle.voucher_chain.specs.Extended.{IsExtended}
 use Rattle.voucher_chain.specs.Voucher.{voucher_with}
 
 -- ---- the last of some entries

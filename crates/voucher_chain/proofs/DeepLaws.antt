@@ -1,6 +1,6 @@
 -- Going over the items of a voucher by their levels.
 use Rattle.std.proofs.Common.{◌≡◌, ℕ, zero, suc, ◌-◌, List, [], ◌∷◌, Option, Some, None, refl, ap, arith}
-use Rattle.cbor_core.specs.Spots.{Spot, Standing, spot_parts, spots_of, first_of}
+use Rattle.cbor_core.specs.Spots.{Spot, Standing, spot_parts, first_of}
 use Rattle.voucher_chain.specs.Deep.{deep_place}
 use Rattle.voucher_chain.specs.Fault.{or_else}
 

@@ -1,5 +1,5 @@
 -- What is read is spelled, and what is spelled is read.
-use Rattle.std.proofs.Common.{◌≡◌, ℕ, List, length, Bool, true, false, Option, Result, Ok, Err, IfOk, refl, sym, ap, subst, ◌∙◌, arith}
+use Rattle.std.proofs.Common.{◌≡◌, ℕ, List, length, Bool, true, false, Option, Result, Ok, Err, IfOk, refl, ap, subst, ◌∙◌}
 use Rattle.std.specs.Prelude.{nat_le, ◌≤◌, if◌then◌else◌}
 use Rattle.std.proofs.lemmas.Bool.{le-leb, leb-true}
 use Rattle.cbor_core.specs.Spots.{Spot}

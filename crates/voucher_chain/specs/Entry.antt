@@ -12,7 +12,7 @@ use Rattle.key_codec.specs.Fault.{ok_of}
 use Rattle.key_codec.specs.Hash.{hash_in, item_of_hash}
 use Rattle.key_codec.specs.Key.{key_in, item_of_key}
 use Rattle.cose_envelopes.specs.declared.sign1.Sign1.{Sign1}
-use Rattle.cose_envelopes.specs.Envelope.{sign1_in, item_of_sign1}
+use Rattle.cose_envelopes.specs.Envelope.{sign1_in}
 use Rattle.cose_envelopes.specs.Places.{content_at, is_protected}
 use Rattle.voucher_chain.specs.declared.entry.Entry.{Entry}
 use Rattle.voucher_chain.specs.declared.entry.Payload.{Payload}

@@ -1,5 +1,5 @@
 -- A voucher with one more entry, and the strength of the hashes that are made for it.
-use Rattle.std.specs.Prelude.{◌≡◌, ℕ, ◌==◌, ℤ, pos, List, [], ◌∷◌, ◌++◌, length, nat_lt, Bool, true, false, ◌||◌, ◌&&◌, Option, Some, None, IsSome, Result, Ok, Err, if◌then◌else◌}
+use Rattle.std.specs.Prelude.{◌≡◌, ℕ, ◌==◌, ℤ, pos, [], ◌∷◌, ◌++◌, length, nat_lt, Bool, true, false, ◌||◌, ◌&&◌, Option, None, IsSome, Result, Ok, Err, if◌then◌else◌}
 use Rattle.std.specs.Ordering.{int_eq}
 use Rattle.cbor_core.specs.Deterministic.{det}
 use Rattle.hash_hmac.specs.Kind.{sha256_kind, sha384_kind}

@@ -1,5 +1,5 @@
 -- Device credentials and the vouchers that they match (FIDO Device Onboard 1.1, section 3.4.2).
-use Rattle.std.specs.Prelude.{◌≡◌, ◌≤◌, ℕ, ℤ, pos, List, Option, Some, option_map}
+use Rattle.std.specs.Prelude.{◌≡◌, ℕ, pos, List, Some, option_map}
 use Rattle.hash_hmac.specs.declared.hash.Hash.{Hash}
 use Rattle.hash_hmac.specs.Hashing.{hashed}
 use Rattle.hash_hmac.specs.Hmac.{maced}

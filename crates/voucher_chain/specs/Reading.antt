@@ -1,5 +1,5 @@
 -- Which voucher bytes say, or why they say none.
-use Rattle.std.specs.Prelude.{◌≡◌, ℕ, ◌≤◌, List, length, nat_le, Result, Ok, Err, if◌then◌else◌}
+use Rattle.std.specs.Prelude.{ℕ, ◌≤◌, List, length, nat_le, Result, Ok, Err, if◌then◌else◌}
 use Rattle.cbor_core.specs.Whole.{seen_at, Shows}
 use Rattle.voucher_chain.specs.declared.fault.ChainFault.{ChainFault}
 use Rattle.voucher_chain.specs.declared.fault.ChainFault.TheVariants as fault

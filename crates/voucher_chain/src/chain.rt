@@ -43,9 +43,21 @@ pub fn check_entry<S: Suite>(
     ensures faults { S.Holder.faults suite.new ≡ S.Holder.faults suite.old }
 {
     let unknown = ChainFault::NoAlgorithm(index);
-    check_hash(&entry.prev, prev_first, prev_second, unknown, ChainFault::BadPrevHash(index))?;
+    check_hash(
+        &entry.prev,
+        prev_first,
+        prev_second,
+        unknown,
+        ChainFault::BadPrevHash(index),
+    )?;
     let info = header.info.as_list().as_bytes();
-    check_hash(&entry.hdr, &header.guid, info, unknown, ChainFault::BadInfoHash(index))?;
+    check_hash(
+        &entry.hdr,
+        &header.guid,
+        info,
+        unknown,
+        ChainFault::BadInfoHash(index),
+    )?;
     check_signature(alloc, suite, index, signer, &entry.sign)
 }
 
@@ -119,11 +131,7 @@ pub fn check_chain<S: Suite>(
 }
 
 #[tactic(auto, unfolding(crate::specs::Chain::first_break))]
-fn check_all<S: Suite>(
-    alloc: Global,
-    suite: &mut S,
-    voucher: &Voucher,
-) -> Result<(), ChainFault>
+fn check_all<S: Suite>(alloc: Global, suite: &mut S, voucher: &Voucher) -> Result<(), ChainFault>
     requires { length voucher.now.entries ≤ 255 }
     ensures answer { Answers (checked (first_break S.Verifier.verifies voucher.now)) result }
     ensures held { S.Holder.held suite.new ≡ S.Holder.held suite.old }
@@ -144,7 +152,13 @@ fn check_certificates(
         (None, None) => Ok(()),
         (Some(chain), Some(hash)) => {
             let bytes = in_a_row(alloc, chain.as_list())?;
-            check_hash(hash, bytes.as_list(), &[], ChainFault::BadCertHash, ChainFault::BadCertHash)
+            check_hash(
+                hash,
+                bytes.as_list(),
+                &[],
+                ChainFault::BadCertHash,
+                ChainFault::BadCertHash,
+            )
         }
         _ => Err(ChainFault::BadCertHash),
     }

@@ -193,11 +193,7 @@ fn read_extra(alloc: Global, part: &Part) -> Result<Option<Option<Blob>>, NoMemo
 
 /// Where a part that is no entry is not of its form. An item that stands too deep counts in the order of offsets.
 #[tactic(auto, unfolding(crate::specs::Entry::entry_place))]
-pub fn find_entry_fault(
-    alloc: Global,
-    part: &Part,
-    deep: Option<usize>,
-) -> Result<usize, NoMemory>
+pub fn find_entry_fault(alloc: Global, part: &Part, deep: Option<usize>) -> Result<usize, NoMemory>
     ensures { IfOk result (λ at. at ≡ entry_place deep part.now.spot) }
 {
     match part.tagged(18) {
@@ -206,11 +202,7 @@ pub fn find_entry_fault(
     }
 }
 
-fn find_content_fault(
-    alloc: Global,
-    content: &Part,
-    deep: Option<usize>,
-) -> Result<usize, NoMemory>
+fn find_content_fault(alloc: Global, content: &Part, deep: Option<usize>) -> Result<usize, NoMemory>
     ensures { IfOk result (λ at. at ≡ content_fault deep content.now.spot) }
 {
     let Some((protected, unprotected, payload, sig)) = content.four() else {

@@ -82,7 +82,11 @@ fn next_entry<S: Suite>(
     let bits = strength(&voucher.header.key);
     let (first, second) = texts_before(voucher);
     let prev = hash_by(bits, first, second);
-    let hdr = hash_by(bits, &voucher.header.guid, voucher.header.info.as_list().as_bytes());
+    let hdr = hash_by(
+        bits,
+        &voucher.header.guid,
+        voucher.header.info.as_list().as_bytes(),
+    );
     let signer = key_bytes(alloc, owner_key(voucher))?;
     let payload = payload_bytes(alloc, &prev, &hdr, next)?;
     let sign = sign_payload(alloc, suite, index, signer.as_list(), payload)?;
@@ -122,12 +126,7 @@ fn hash_by(bits: u16, first: &[u8], second: &[u8]) -> Hash
     }
 }
 
-fn payload_bytes(
-    alloc: Global,
-    prev: &Hash,
-    hdr: &Hash,
-    next: &PublicKey,
-) -> Result<Blob, NoMemory>
+fn payload_bytes(alloc: Global, prev: &Hash, hdr: &Hash, next: &PublicKey) -> Result<Blob, NoMemory>
     ensures { IfOk result (λ bytes. bytes ≡ det (item_of_payload prev.now hdr.now next.now)) }
 {
     let item = payload_item_of(alloc, prev, hdr, next)?;
@@ -169,7 +168,13 @@ fn with_entry(alloc: Global, voucher: &Voucher, entry: Entry) -> Result<Voucher,
     let mut entries = copy_entries(alloc, voucher.entries.as_list())?;
     entries.push(entry)?;
     let hmac_raw = voucher.hmac_raw.copy()?;
-    let raw = voucher_raw(alloc, &voucher.header, hmac_raw.as_list(), &voucher.chain, entries.as_slice())?;
+    let raw = voucher_raw(
+        alloc,
+        &voucher.header,
+        hmac_raw.as_list(),
+        &voucher.chain,
+        entries.as_slice(),
+    )?;
     Ok(Voucher {
         raw,
         header: voucher.header.copy(alloc)?,

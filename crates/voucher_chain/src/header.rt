@@ -12,7 +12,10 @@ use crate::fault::{ChainFault, shape_fault};
 use crate::rv_info::{RvInfo, find_rv_fault, read_rv, rv_item};
 use cbor_core::{Blob, Item, Items, NoMemory, Part, Text, exactly, write_det};
 use hash_hmac::Hash;
-use key_codec::{KeyFault, PublicKey, find_hash_fault, find_key_fault, hash_item, key_bytes, key_item, read_hash, read_key};
+use key_codec::{
+    KeyFault, PublicKey, find_hash_fault, find_key_fault, hash_item, key_bytes, key_item,
+    read_hash, read_key,
+};
 use std::alloc::Global;
 
 /// The header of an ownership voucher (FIDO Device Onboard 1.1, section 3.4.1, "OVHeader").

@@ -11,13 +11,7 @@ pub fn strength(key: &PublicKey) -> u16
 {
     match key.kind {
         SECP384R1 => 384,
-        LABORATORY => {
-            if is_long(&key.body) {
-                384
-            } else {
-                256
-            }
-        }
+        LABORATORY => { if is_long(&key.body) { 384 } else { 256 } }
         _ => 256,
     }
 }

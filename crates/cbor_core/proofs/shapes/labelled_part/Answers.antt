@@ -1,4 +1,4 @@
-use Rattle.std.proofs.Common.{◌≡◌, sym, ◌∙◌, to_z-of_z}
+use Rattle.std.proofs.Common.{sym, ◌∙◌, to_z-of_z}
 use Rattle.std.specs.Prelude.{option_map}
 use Rattle.cbor_core.proofs.ShapeLaws.{map_at}
 use Rattle.cbor_core.proofs.shapes.labelled_part.Goals as goal

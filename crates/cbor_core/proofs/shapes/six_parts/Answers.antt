@@ -1,4 +1,4 @@
-use Rattle.std.proofs.Common.{sym, ◌∙◌}
+use Rattle.std.proofs.Common.{sym}
 use Rattle.cbor_core.specs.Spots.{spot_parts}
 use Rattle.cbor_core.proofs.ShapeLaws.{six_are}
 use Rattle.cbor_core.proofs.SpotLaws.{none_left, some_left}

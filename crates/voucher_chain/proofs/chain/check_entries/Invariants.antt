@@ -4,9 +4,9 @@ use Rattle.voucher_chain.proofs.chain.check_entries.Given as goal
 
 abbrev pub invariant-loop-entry : goal.invariant-loop-entry
 invariant-loop-entry g l = record {
-    index : l.index ≡ l.entry-index;
-    breaks : links_break g.S.Verifier.verifies l.fn.voucher.header l.entry-index (l.first ++ l.second) l.signer (drop l.entry-index l.entries)
-        ≡ links_break g.S.Verifier.verifies l.fn.voucher.header 0 (front l.fn.voucher) l.fn.voucher.header.key l.fn.voucher.entries;
-    held : g.S.Holder.held l.suite ≡ g.S.Holder.held l.fn.suite;
-    faults : g.S.Holder.faults l.suite ≡ g.S.Holder.faults l.fn.suite;
+  index : l.index ≡ l.entry-index;
+  breaks : links_break g.S.Verifier.verifies l.fn.voucher.header l.entry-index (l.first ++ l.second) l.signer (drop l.entry-index l.entries)
+      ≡ links_break g.S.Verifier.verifies l.fn.voucher.header 0 (front l.fn.voucher) l.fn.voucher.header.key l.fn.voucher.entries;
+  held : g.S.Holder.held l.suite ≡ g.S.Holder.held l.fn.suite;
+  faults : g.S.Holder.faults l.suite ≡ g.S.Holder.faults l.fn.suite;
 }

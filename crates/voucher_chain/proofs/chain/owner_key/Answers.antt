@@ -1,6 +1,5 @@
-use Rattle.std.proofs.Common.{◌≡◌, ◌-◌, Some, length, sym, ap, subst, ◌∙◌}
+use Rattle.std.proofs.Common.{◌≡◌, ◌-◌, Some, length, sym, subst}
 use Rattle.std.specs.List.{slice_get}
-use Rattle.voucher_chain.specs.declared.entry.Entry.{Entry}
 use Rattle.voucher_chain.proofs.ChainLaws.{last_some}
 use Rattle.voucher_chain.proofs.chain.owner_key.Goals as goal
 

@@ -39,7 +39,7 @@ def load(path):
     return module
 
 
-make = load(Path(__file__).resolve().with_name("make.py"))
+make = load(Path(__file__).resolve().parents[2] / "body_lines" / "lines" / "make.py")
 Fault, encode, known, of = make.Fault, make.encode, make.known, make.of
 parts_of, row, shortest, string = make.parts_of, make.row, make.shortest, make.string
 
