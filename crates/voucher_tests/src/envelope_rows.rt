@@ -2,7 +2,10 @@
 
 /// Bytes that are no Sign1, and where their first fault stands.
 pub(crate) static SIGN1_FAULTS: [(&str, usize); 32] = [
-    ("d08343a10103a1054c0102030405060708090a0b0c467365616c6564", 0),
+    (
+        "d08343a10103a1054c0102030405060708090a0b0c467365616c6564",
+        0,
+    ),
     ("d28443a10126a0477061796c6f6164437369", 15),
     ("d28400a0477061796c6f616443736967", 2),
     ("d28443a1012600477061796c6f616443736967", 6),
@@ -38,7 +41,10 @@ pub(crate) static SIGN1_FAULTS: [(&str, usize); 32] = [
 
 /// Bytes that are no Mac0, and where their first fault stands.
 pub(crate) static MAC0_FAULTS: [(&str, usize); 31] = [
-    ("d08343a10103a1054c0102030405060708090a0b0c467365616c6564", 0),
+    (
+        "d08343a10103a1054c0102030405060708090a0b0c467365616c6564",
+        0,
+    ),
     ("d18400a0477061796c6f616443746167", 2),
     ("d18443a1010500477061796c6f616443746167", 6),
     ("d18443a10105a00043746167", 7),
