@@ -91,7 +91,7 @@ entry_lines i [] = []
 entry_lines i (e ∷ es) = entry_line i e ∷ entry_lines (i + 1) es
 
 -- what stands above the instructions
-abbrev pub first_lines : Voucher → List (List ℕ)
+unfoldable pub first_lines : Voucher → List (List ℕ)
 first_lines v =
     codes "version 101"
     ∷ (codes "guid " ++ hyphenated_text lower v.header.guid)

@@ -45,7 +45,8 @@ fn put_first(alloc: Global, out: &mut Vec<u8>, voucher: &Voucher) -> Result<(), 
     put_device(out, voucher.header.info.as_list().as_bytes())?;
     put_own_key(alloc, out, &voucher.header.key, voucher.header.key_raw.as_list())?;
     put_hmac(alloc, out, &voucher.hmac)?;
-    put_chain(alloc, out, &voucher.chain)
+    put_chain(alloc, out, &voucher.chain)?;
+    Ok(())
 }
 
 ghost use Rattle.uuid.specs.Text.{hyphenated_text, lower};
