@@ -1,5 +1,5 @@
 -- The key of the last entry is the last owner's.
-use Rattle.std.proofs.Common.{◌≡◌, ℕ, suc, ◌-◌, List, [], ◌∷◌, length, Option, Some, ap, ◌∙◌, arith}
+use Rattle.std.proofs.Common.{◌≡◌, ℕ, suc, ◌-◌, List, [], ◌∷◌, length, Some, ap, ◌∙◌, arith}
 use Rattle.std.specs.List.{slice_get}
 use Rattle.voucher_chain.specs.declared.entry.Entry.{Entry}
 use Rattle.voucher_tool.specs.Received.{key_received, last_received}

@@ -1,11 +1,10 @@
 -- The text that shows a voucher, line by line.
-use Rattle.std.specs.Prelude.{ℕ, ◌+◌, ◌==◌, ℤ, pos, nat_lt, List, [], ◌∷◌, ◌++◌, length, map, flat_map, codes, Bool, ◌||◌, if◌then◌else◌, Option, Some, None}
+use Rattle.std.specs.Prelude.{ℕ, ◌+◌, ◌==◌, ℤ, nat_lt, List, [], ◌∷◌, ◌++◌, length, map, flat_map, codes, ◌||◌, if◌then◌else◌, Option, Some, None}
 use Rattle.std.specs.Fmt.{decimal, signed_decimal}
 use Rattle.std.specs.Ordering.{int_eq}
 use Rattle.hex.specs.Hex.{encode_lower}
 use Rattle.sha2.specs.Sha256.{sha256}
 use Rattle.uuid.specs.Text.{hyphenated_text, lower}
-use Rattle.hash_hmac.specs.declared.hash.Hash.{Hash}
 use Rattle.hash_hmac.specs.Kind.{hmac_sha256_kind}
 use Rattle.hash_hmac.specs.Value.{content}
 use Rattle.key_codec.specs.declared.key.PublicKey.{PublicKey}

@@ -11,11 +11,7 @@ use voucher_chain::{ChainFault, Voucher, check_chain};
 
 /// The text for a voucher whose chain of owners holds: the number of its entries, and the hash of the last owner's key as
 /// received. Its refusals are those of `check_chain`.
-pub fn check<S: Suite>(
-    alloc: Global,
-    suite: &mut S,
-    voucher: &Voucher,
-) -> Result<Blob, ChainFault>
+pub fn check<S: Suite>(alloc: Global, suite: &mut S, voucher: &Voucher) -> Result<Blob, ChainFault>
     requires { length voucher.now.entries ≤ 255 }
     // The first break of the chain, or the text where nothing breaks it.
     ensures answer { Answers (check_told S.Verifier.verifies voucher.now) result }

@@ -43,7 +43,12 @@ fn put_first(alloc: Global, out: &mut Vec<u8>, voucher: &Voucher) -> Result<(), 
     put_line(out, b"version 101")?;
     put_guid(out, &voucher.header.guid)?;
     put_device(out, voucher.header.info.as_list().as_bytes())?;
-    put_own_key(alloc, out, &voucher.header.key, voucher.header.key_raw.as_list())?;
+    put_own_key(
+        alloc,
+        out,
+        &voucher.header.key,
+        voucher.header.key_raw.as_list(),
+    )?;
     put_hmac(alloc, out, &voucher.hmac)?;
     put_chain(alloc, out, &voucher.chain)?;
     Ok(())
@@ -55,7 +60,9 @@ fn put_guid(out: &mut Vec<u8>, guid: &[u8; 16]) -> Result<(), NoMemory>
     ensures { OnOk result (out.new.items ≡ out.old.items ++ ended (codes "guid " ++ hyphenated_text lower guid.now)) }
 {
     let mut buffer = [0; 36];
-    let text = Uuid::from_bytes(*guid).hyphenated().encode_lower(&mut buffer);
+    let text = Uuid::from_bytes(*guid)
+        .hyphenated()
+        .encode_lower(&mut buffer);
     out.extend_from_slice(b"guid ")?;
     put_line(out, text.as_bytes())
 }
@@ -268,12 +275,7 @@ fn put_each(alloc: Global, out: &mut Vec<u8>, entries: &[Entry]) -> Result<(), N
     Ok(())
 }
 
-fn put_entry(
-    alloc: Global,
-    out: &mut Vec<u8>,
-    index: usize,
-    entry: &Entry,
-) -> Result<(), NoMemory>
+fn put_entry(alloc: Global, out: &mut Vec<u8>, index: usize, entry: &Entry) -> Result<(), NoMemory>
     ensures { OnOk result (out.new.items ≡ out.old.items ++ ended (entry_line index entry.now)) }
 {
     let raw = received_key(alloc, entry)?;
