@@ -17,8 +17,8 @@ abbrev pub key_in_payload : List ℕ → Result (Item × ℕ) CborFault → List
 key_in_payload payload (Ok x) = fourth_raw (four_spots (start payload))
 key_in_payload payload (Err fault) = []
 
--- the next owner's key is the last of the four parts of what an entry's owner signed; a payload of another form, which no
--- entry has that was read, holds none
+-- the next owner's key is the last of the four parts of an entry's payload; a payload of another form, which no entry has
+-- that was read, holds none
 unfoldable pub key_received : Entry → List ℕ
 key_received e = key_in_payload e.sign.payload (first_item false e.sign.payload)
 
