@@ -1,0 +1,5 @@
+pub mod Check
+pub mod Longer
+pub mod Received
+pub mod Refusal
+pub mod Show

@@ -1,0 +1,48 @@
+-- A longer voucher made of the bytes of one.
+use Rattle.std.specs.Prelude.{◌≡◌, ℕ, ℤ, List, length, Bool, true, false, Option, Result, Ok, Err}
+use Rattle.cbor_core.specs.Deterministic.{det}
+use Rattle.key_codec.specs.declared.key.PublicKey.{PublicKey}
+use Rattle.key_codec.specs.Key.{item_of_key}
+use Rattle.voucher_chain.specs.declared.fault.ChainFault.{ChainFault}
+use Rattle.voucher_chain.specs.declared.fault.ChainFault.TheVariants as fault
+use Rattle.voucher_chain.specs.declared.voucher.Voucher.{Voucher}
+use Rattle.voucher_chain.specs.Chain.{Verifies, last_key}
+use Rattle.voucher_chain.specs.Extended.{IsExtended, Refuses}
+use Rattle.voucher_chain.specs.Reading.{IsVoucher, voucher_at}
+
+-- the bytes of a voucher that has one more entry
+pub record IsRawExtended (verifies : Verifies) (v : Voucher) (next : PublicKey) (made : List ℕ) : Type 0 where
+  pub longer : Voucher
+  pub extended : IsExtended verifies v next longer
+  pub raw : made ≡ longer.raw
+
+-- than the voucher that the bytes spell
+pub record IsLonger (verifies : Verifies) (bytes : List ℕ) (next : PublicKey) (made : List ℕ) : Type 0 where
+  pub voucher : Voucher
+  pub read : IsVoucher bytes voucher
+  pub extended : IsRawExtended verifies voucher next made
+
+-- by which the suite knows the last owner's key
+abbrev pub owner_bytes : Voucher → List ℕ
+owner_bytes v = det (item_of_key (last_key v.header.key v.entries))
+
+-- BadSignature with the number of entries exactly where the last owner's key is not held
+abbrev pub RefusesOwner : {A : Type 0} → Bool → Option ℤ → ℕ → Result A ChainFault → Type 0
+RefusesOwner false told count result = result ≡ Err (fault.BadSignature count)
+RefusesOwner true told count result = Refuses told count result
+
+abbrev pub RefusesVoucher : {A : Type 0} → (List ℕ → Bool) → (List ℕ → Option ℤ) → Voucher → Result A ChainFault → Type 0
+RefusesVoucher held algorithm v result = RefusesOwner (held (owner_bytes v)) (algorithm (owner_bytes v)) (length v.entries) result
+
+-- the refusals of reading come first
+abbrev pub RefusesBytes : {A : Type 0} → (List ℕ → Bool) → (List ℕ → Option ℤ) → Result Voucher ChainFault → Result A ChainFault → Type 0
+RefusesBytes held algorithm (Err f) result = result ≡ Err f
+RefusesBytes held algorithm (Ok v) result = RefusesVoucher held algorithm v result
+
+-- want of memory may come at any place
+abbrev pub UnlessMemory : {A : Type 0} → (Result A ChainFault → Type 0) → Result A ChainFault → Type 0
+UnlessMemory said (Err fault.NoMemory) = Unit {0}
+UnlessMemory said result = said result
+
+abbrev pub RefusesFile : {A : Type 0} → (List ℕ → Bool) → (List ℕ → Option ℤ) → List ℕ → Result A ChainFault → Type 0
+RefusesFile held algorithm bytes result = UnlessMemory (RefusesBytes held algorithm (voucher_at bytes)) result
