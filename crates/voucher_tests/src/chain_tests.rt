@@ -1,24 +1,20 @@
-//! Vouchers: what is read of them, which break is the first, and how they grow.
+//! Vouchers: what is read of them, which break is the first, and how they grow. Each function keeps one voucher at most.
 use crate::chain_rows::{
     CHANGED, FIVE, NO_ENTRIES, ONE_ENTRY, OTHER_RV, REPLACED, STRONG, STRONGER,
 };
-use cbor_core::{Blob, Text, read_wire};
-use hash_hmac::hash_of;
+use cbor_core::{Blob, NoMemory, Text, read_wire};
+use hash_hmac::{Hash, hash_of};
 use key_codec::{KeyBody, PublicKey, key_bytes};
 use std::test::Fail;
 use suite_port::{LabSuite, Signer};
 use voucher_chain::{
-    ChainFault, Credential, RvInfo, Voucher, check_chain, extend, hash_kind_of, matches, owner_key,
-    read_entry, read_header, read_rv, read_voucher, replacement, strength, write_voucher,
+    ChainFault, Credential, Header, RvInfo, Voucher, check_chain, extend, hash_kind_of, matches,
+    owner_key, read_entry, read_header, read_rv, read_voucher, replacement, strength,
+    write_voucher,
 };
 
 fn bytes_of(rt: &HostRuntime, digits: &str) -> Result<Vec<u8>, Fail> {
     Ok(hex::decode(rt.alloc(), digits)?)
-}
-
-fn voucher_of(rt: &HostRuntime, digits: &str) -> Result<Result<Voucher, ChainFault>, Fail> {
-    let bytes = bytes_of(rt, digits)?;
-    Ok(read_voucher(rt.alloc(), bytes.as_slice()))
 }
 
 fn lab(rt: &HostRuntime) -> LabSuite {
@@ -26,35 +22,11 @@ fn lab(rt: &HostRuntime) -> LabSuite {
 }
 
 /// The laboratory key of these bytes.
-fn key(rt: &HostRuntime, bytes: &[u8]) -> Result<PublicKey, Fail> {
+fn key(rt: &HostRuntime, bytes: &[u8]) -> Result<PublicKey, NoMemory> {
     Ok(PublicKey {
         kind: 200,
         enc: 0,
         body: KeyBody::Bytes(Blob::from_slice(rt.alloc(), bytes)?),
-    })
-}
-
-/// What is said of the bytes of a voucher.
-fn verdict(rt: &HostRuntime, bytes: &[u8]) -> Result<String, Fail> {
-    let fault = match read_voucher(rt.alloc(), bytes) {
-        Ok(voucher) => match check_chain(rt.alloc(), &mut lab(rt), &voucher) {
-            Ok(()) => return Ok(String::from_str(rt.alloc(), "ok")?),
-            Err(fault) => fault,
-        },
-        Err(fault) => fault,
-    };
-    text(rt, fault)
-}
-
-fn text(rt: &HostRuntime, fault: ChainFault) -> Result<String, Fail> {
-    Ok(match fault {
-        ChainFault::BadShape(place) => format!(in rt.alloc(); "place {place}")?,
-        ChainFault::BadCertHash => format!(in rt.alloc(); "badcerthash")?,
-        ChainFault::BadPrevHash(index) => format!(in rt.alloc(); "badprevhash {index}")?,
-        ChainFault::BadInfoHash(index) => format!(in rt.alloc(); "badinfohash {index}")?,
-        ChainFault::BadSignature(index) => format!(in rt.alloc(); "badsignature {index}")?,
-        ChainFault::NoAlgorithm(index) => format!(in rt.alloc(); "noalgorithm {index}")?,
-        _ => format!(in rt.alloc(); "another fault")?,
     })
 }
 
@@ -66,108 +38,191 @@ fn refusal<T: Drop>(answer: Result<T, ChainFault>) -> Option<ChainFault> {
     }
 }
 
+// ---- breaks
+
+/// The first fault or break of the bytes of a voucher.
+fn verdict(rt: &HostRuntime, bytes: &[u8]) -> Option<ChainFault> {
+    match read_voucher(rt.alloc(), bytes) {
+        Ok(voucher) => broken(rt, &voucher),
+        Err(fault) => Some(fault),
+    }
+}
+
+fn broken(rt: &HostRuntime, voucher: &Voucher) -> Option<ChainFault> {
+    if voucher.entries.as_list().len() > 255 {
+        return Some(ChainFault::TooLong);
+    }
+    refusal(check_chain(rt.alloc(), &mut lab(rt), voucher))
+}
+
+fn text(rt: &HostRuntime, fault: Option<ChainFault>) -> Result<String, Fail> {
+    Ok(match fault {
+        None => format!(in rt.alloc(); "ok")?,
+        Some(ChainFault::BadShape(place)) => format!(in rt.alloc(); "place {place}")?,
+        Some(ChainFault::BadCertHash) => format!(in rt.alloc(); "badcerthash")?,
+        Some(ChainFault::BadPrevHash(index)) => format!(in rt.alloc(); "badprevhash {index}")?,
+        Some(ChainFault::BadInfoHash(index)) => format!(in rt.alloc(); "badinfohash {index}")?,
+        Some(ChainFault::BadSignature(index)) => format!(in rt.alloc(); "badsignature {index}")?,
+        Some(ChainFault::NoAlgorithm(index)) => format!(in rt.alloc(); "noalgorithm {index}")?,
+        Some(_) => format!(in rt.alloc(); "another fault")?,
+    })
+}
+
+/// What is said of the voucher of five entries where a byte is changed.
+fn changed(rt: &HostRuntime, place: usize, bits: u8) -> Result<String, Fail> {
+    let mut bytes = bytes_of(rt, FIVE)?;
+    if let Some(byte) = bytes.get_mut(place) {
+        *byte = *byte ^ bits;
+    }
+    text(rt, verdict(rt, bytes.as_slice()))
+}
+
 #[test]
 fn a_changed_byte_is_named(rt: HostRuntime) -> Result<(), Fail> {
-    let whole = bytes_of(&rt, FIVE)?;
-    let said = verdict(&rt, whole.as_slice())?;
-    assert_eq!(rt; said.as_str(), "ok");
     for (place, bits, wanted) in &CHANGED {
-        let mut bytes = bytes_of(&rt, FIVE)?;
-        let Some(byte) = bytes.get_mut(*place) else {
-            return Err(Fail::new("no byte"));
-        };
-        *byte = *byte ^ *bits;
-        let said = verdict(&rt, bytes.as_slice())?;
+        let said = changed(&rt, *place, *bits)?;
         assert_eq!(rt; said.as_str(), *wanted);
     }
     Ok(())
 }
 
+#[test]
+fn nothing_is_changed(rt: HostRuntime) -> Result<(), Fail> {
+    let said = changed(&rt, 0, 0)?;
+    assert_eq!(rt; said.as_str(), "ok");
+    Ok(())
+}
+
 // ---- reading
+
+/// Whether the voucher of five entries has its parts.
+fn is_read(rt: &HostRuntime, bytes: &[u8]) -> bool {
+    match read_voucher(rt.alloc(), bytes) {
+        Ok(voucher) => {
+            voucher.raw.as_list() == bytes
+                && has_parts(&voucher)
+                && is_owned(rt, &voucher)
+                && parts_are_read(rt, &voucher)
+        }
+        Err(_) => false,
+    }
+}
+
+fn has_parts(voucher: &Voucher) -> bool {
+    voucher.entries.as_list().len() == 5
+        && voucher.header.guid
+            == *b"\x00\x01\x02\x03\x04\x05\x06\x07\x08\x09\x0a\x0b\x0c\x0d\x0e\x0f"
+        && voucher.header.info.as_list() == "lab"
+        && voucher.hmac.kind == 5
+}
+
+fn is_owned(rt: &HostRuntime, voucher: &Voucher) -> bool {
+    match key_bytes(rt.alloc(), owner_key(voucher)) {
+        Ok(owner) => owner.as_list() == b"\x83\x18\xc8\x00\x41\x02".as_slice(),
+        Err(_) => false,
+    }
+}
+
+/// The header and each entry are read by themselves from their bytes.
+fn parts_are_read(rt: &HostRuntime, voucher: &Voucher) -> bool {
+    for entry in voucher.entries.as_list() {
+        if !is_entry(rt, entry.raw.as_list(), &entry.prev) {
+            return false;
+        }
+    }
+    is_header(
+        rt,
+        voucher.header.raw.as_list(),
+        voucher.header.key_raw.as_list(),
+    )
+}
+
+fn is_entry(rt: &HostRuntime, bytes: &[u8], prev: &Hash) -> bool {
+    match read_entry(rt.alloc(), bytes) {
+        Ok(entry) => entry.prev == *prev,
+        Err(_) => false,
+    }
+}
+
+fn is_header(rt: &HostRuntime, bytes: &[u8], key: &[u8]) -> bool {
+    match read_header(rt.alloc(), bytes) {
+        Ok(header) => header.key_raw.as_list() == key,
+        Err(_) => false,
+    }
+}
 
 #[test]
 fn what_is_read(rt: HostRuntime) -> Result<(), Fail> {
     let bytes = bytes_of(&rt, FIVE)?;
-    let voucher = read_voucher(rt.alloc(), bytes.as_slice())?;
-    assert_eq!(rt; voucher.raw.as_list(), bytes.as_slice());
-    assert_eq!(rt; voucher.entries.as_list().len(), 5);
-    assert_eq!(rt;
-        voucher.header.guid.as_slice(),
-        b"\x00\x01\x02\x03\x04\x05\x06\x07\x08\x09\x0a\x0b\x0c\x0d\x0e\x0f".as_slice()
-    );
-    assert_eq!(rt; voucher.header.info.as_list(), "lab");
-    assert_eq!(rt; voucher.hmac.kind, 5);
-    assert!(rt; parts_are_read(&rt, &voucher)?);
-    let owner = key_bytes(rt.alloc(), owner_key(&voucher))?;
-    assert_eq!(rt; owner.as_list(), b"\x83\x18\xc8\x00\x41\x02".as_slice());
+    let read = is_read(&rt, bytes.as_slice());
+    assert!(rt; read);
     Ok(())
-}
-
-/// The header and each entry are read by themselves from their bytes.
-fn parts_are_read(rt: &HostRuntime, voucher: &Voucher) -> Result<bool, Fail> {
-    let header = read_header(rt.alloc(), voucher.header.raw.as_list())?;
-    if header.key_raw != voucher.header.key_raw {
-        return Ok(false);
-    }
-    for entry in voucher.entries.as_list() {
-        let read = read_entry(rt.alloc(), entry.raw.as_list())?;
-        if read.prev != entry.prev {
-            return Ok(false);
-        }
-    }
-    Ok(true)
 }
 
 /// What a reader says of bytes that are another form's.
 #[test]
 fn another_form_is_none(rt: HostRuntime) -> Result<(), Fail> {
     let bytes = bytes_of(&rt, NO_ENTRIES)?;
-    let voucher = read_voucher(rt.alloc(), bytes.as_slice())?;
     let header = refusal(read_header(rt.alloc(), bytes.as_slice()));
-    assert_eq!(rt; header, Some(ChainFault::BadShape(0)));
     let entry = refusal(read_entry(rt.alloc(), bytes.as_slice()));
+    assert_eq!(rt; header, Some(ChainFault::BadShape(0)));
     assert_eq!(rt; entry, Some(ChainFault::BadShape(0)));
-    let whole = refusal(read_voucher(rt.alloc(), voucher.header.raw.as_list()));
-    assert_eq!(rt; whole, Some(ChainFault::BadShape(0)));
     Ok(())
 }
 
 // ---- credentials
 
-/// The credential of the device whose vouchers these are.
-fn credential(rt: &HostRuntime, voucher: &Voucher) -> Result<Credential, Fail> {
-    let Some(key_hash) = hash_of(-16, voucher.header.key_raw.as_list(), b"") else {
-        return Err(Fail::new("no hash"));
+/// Whether the credential of the device, changed so, matches the voucher of five entries.
+fn matches_changed(rt: &HostRuntime, alg: u8, secret: u8, guid: u8, key: u8) -> Result<bool, Fail> {
+    let bytes = bytes_of(rt, FIVE)?;
+    match read_voucher(rt.alloc(), bytes.as_slice()) {
+        Ok(voucher) => Ok(is_matched(rt, &voucher, alg, secret, guid, key)),
+        Err(_) => Err(Fail::new("no voucher")),
+    }
+}
+
+fn is_matched(rt: &HostRuntime, voucher: &Voucher, alg: u8, secret: u8, guid: u8, key: u8) -> bool {
+    match credential(rt, voucher, alg, secret, guid, key) {
+        Ok(credential) => matches(&credential, voucher),
+        Err(_) => false,
+    }
+}
+
+fn credential(
+    rt: &HostRuntime,
+    voucher: &Voucher,
+    alg: u8,
+    secret: u8,
+    guid: u8,
+    key: u8,
+) -> Result<Credential, NoMemory> {
+    let Some(mut key_hash) = hash_of(-16, voucher.header.key_raw.as_list(), b"") else {
+        return Err(NoMemory);
     };
+    key_hash.bytes[31] = key_hash.bytes[31] ^ key;
+    let mut own = voucher.header.guid;
+    own[15] = own[15] ^ guid;
+    let mut kept =
+        *b"laboratory\x00\x00\x00\x00\x00\x00\x00\x00\x00\x00\x00\x00\x00\x00\x00\x00\x00\x00\x00\x00\x00\x00";
+    kept[0] = kept[0] ^ secret;
+    let rv = Blob::from_slice(rt.alloc(), b"\x80")?;
     Ok(Credential {
-        guid: voucher.header.guid,
-        rv: Blob::from_slice(rt.alloc(), b"\x80")?,
+        guid: own,
+        rv,
         info: Text::from_str(rt.alloc(), "lab")?,
-        secret: *b"laboratory\x00\x00\x00\x00\x00\x00\x00\x00\x00\x00\x00\x00\x00\x00\x00\x00\x00\x00\x00\x00\x00\x00",
+        secret: kept,
         key_hash,
-        alg: 5,
+        alg,
     })
 }
 
 #[test]
 fn a_credential_matches_its_voucher(rt: HostRuntime) -> Result<(), Fail> {
-    let voucher = voucher_of(&rt, FIVE)??;
-    let right = credential(&rt, &voucher)?;
-    assert!(rt; matches(&right, &voucher));
-    let equal = right.copy()?;
-    assert!(rt; matches(&equal, &voucher));
-    let mut other = credential(&rt, &voucher)?;
-    other.alg = 6;
-    assert!(rt; !matches(&other, &voucher));
-    let mut other = credential(&rt, &voucher)?;
-    other.secret[0] = 0;
-    assert!(rt; !matches(&other, &voucher));
-    let mut other = credential(&rt, &voucher)?;
-    other.guid[15] = 0;
-    assert!(rt; !matches(&other, &voucher));
-    let mut other = credential(&rt, &voucher)?;
-    other.key_hash.bytes[31] = other.key_hash.bytes[31] ^ 1;
-    assert!(rt; !matches(&other, &voucher));
+    assert!(rt; matches_changed(&rt, 5, 0, 0, 0)?);
+    assert!(rt; !matches_changed(&rt, 6, 0, 0, 0)?);
+    assert!(rt; !matches_changed(&rt, 5, 1, 0, 0)?);
+    assert!(rt; !matches_changed(&rt, 5, 0, 1, 0)?);
+    assert!(rt; !matches_changed(&rt, 5, 0, 0, 1)?);
     Ok(())
 }
 
@@ -180,16 +235,43 @@ fn longer(
     voucher: &Voucher,
     next: &PublicKey,
 ) -> Result<Voucher, ChainFault> {
-    let Ok(owner) = key_bytes(rt.alloc(), owner_key(voucher)) else {
-        return Err(ChainFault::NoMemory);
-    };
-    if !suite.holds(owner.as_list()) || voucher.entries.as_list().len() > 255 {
-        return Err(ChainFault::NoMatch);
+    match key_bytes(rt.alloc(), owner_key(voucher)) {
+        Ok(owner) => {
+            if suite.holds(owner.as_list()) && voucher.entries.as_list().len() <= 255 {
+                extend(rt.alloc(), suite, voucher, next)
+            } else {
+                Err(ChainFault::NoMatch)
+            }
+        }
+        Err(_) => Err(ChainFault::NoMemory),
     }
-    extend(rt.alloc(), suite, voucher, next)
 }
 
-/// Whether a voucher, extended under a private key, has these bytes.
+/// The bytes of a voucher with one more entry, for the laboratory key of these bytes.
+fn grown(
+    rt: &HostRuntime,
+    suite: &mut LabSuite,
+    bytes: &[u8],
+    next: &[u8],
+) -> Result<Blob, ChainFault> {
+    let next = key(rt, next)?;
+    match read_voucher(rt.alloc(), bytes) {
+        Ok(voucher) => raw_of(longer(rt, suite, &voucher, &next)),
+        Err(fault) => Err(fault),
+    }
+}
+
+fn raw_of(voucher: Result<Voucher, ChainFault>) -> Result<Blob, ChainFault> {
+    match voucher {
+        Ok(voucher) => {
+            let Voucher { raw, .. } = voucher;
+            Ok(raw)
+        }
+        Err(fault) => Err(fault),
+    }
+}
+
+/// Whether a voucher, extended by the holder of a private key, has these bytes.
 fn extends(
     rt: &HostRuntime,
     from: &str,
@@ -197,13 +279,14 @@ fn extends(
     next: &[u8],
     wanted: &str,
 ) -> Result<bool, Fail> {
+    let from = bytes_of(rt, from)?;
+    let wanted = bytes_of(rt, wanted)?;
     let mut suite = lab(rt);
     let _loaded = suite.load(rt.alloc(), private)?;
-    let voucher = voucher_of(rt, from)??;
-    let made = longer(rt, &mut suite, &voucher, &key(rt, next)?)?;
-    let bytes = bytes_of(rt, wanted)?;
-    let said = verdict(rt, made.raw.as_list())?;
-    Ok(made.raw.as_list() == bytes.as_slice() && said.as_str() == "ok")
+    match grown(rt, &mut suite, from.as_slice(), next) {
+        Ok(made) => Ok(made.as_list() == wanted.as_slice()),
+        Err(_) => Ok(false),
+    }
 }
 
 #[test]
@@ -213,101 +296,157 @@ fn a_voucher_grows(rt: HostRuntime) -> Result<(), Fail> {
     Ok(())
 }
 
-#[test]
-fn a_signer_that_fails(rt: HostRuntime) -> Result<(), Fail> {
+/// A suite that holds the private key 01 and fails at these calls.
+fn failing(rt: &HostRuntime, call: u64) -> Result<LabSuite, Fail> {
     let mut fail = Vec::new(rt.alloc());
-    fail.push(2)?;
+    fail.push(call)?;
     let mut suite = LabSuite::new(fail);
     let _loaded = suite.load(rt.alloc(), b"\x01")?;
-    let voucher = voucher_of(&rt, NO_ENTRIES)??;
-    let next = key(&rt, b"\x02")?;
-    let answer = refusal(longer(&rt, &mut suite, &voucher, &next));
+    Ok(suite)
+}
+
+#[test]
+fn a_signer_that_fails(rt: HostRuntime) -> Result<(), Fail> {
+    let bytes = bytes_of(&rt, NO_ENTRIES)?;
+    let mut suite = failing(&rt, 2)?;
+    let answer = refusal(grown(&rt, &mut suite, bytes.as_slice(), b"\x02"));
+    let again = refusal(grown(&rt, &mut suite, bytes.as_slice(), b"\x02"));
     assert_eq!(rt; answer, Some(ChainFault::Failed));
-    let again = refusal(longer(&rt, &mut suite, &voucher, &next));
     assert_eq!(rt; again, None);
     Ok(())
 }
 
-/// A voucher for 255 owners in turn, each with the same key.
+/// The bytes of a voucher for so many owners in turn, each with the same key.
+fn owned(rt: &HostRuntime, suite: &mut LabSuite, turns: u32) -> Result<Blob, ChainFault> {
+    let Ok(bytes) = bytes_of_none(rt) else {
+        return Err(ChainFault::NoMemory);
+    };
+    let mut all = bytes;
+    for _turn in 0..turns {
+        match grown(rt, suite, all.as_list(), b"\x01") {
+            Ok(more) => all = more,
+            Err(fault) => return Err(fault),
+        }
+    }
+    Ok(all)
+}
+
+fn bytes_of_none(rt: &HostRuntime) -> Result<Blob, NoMemory> {
+    match hex::decode(rt.alloc(), NO_ENTRIES) {
+        Ok(bytes) => Ok(Blob::new(bytes)),
+        Err(_) => Err(NoMemory),
+    }
+}
+
 #[test]
 fn at_most_255_entries(rt: HostRuntime) -> Result<(), Fail> {
-    let mut suite = lab(&rt);
-    let _loaded = suite.load(rt.alloc(), b"\x01")?;
-    let next = key(&rt, b"\x01")?;
-    let mut voucher = voucher_of(&rt, NO_ENTRIES)??;
-    for _turn in 0..255 {
-        voucher = longer(&rt, &mut suite, &voucher, &next)?;
-    }
-    let said = verdict(&rt, voucher.raw.as_list())?;
-    assert_eq!(rt; said.as_str(), "ok");
-    let read = read_voucher(rt.alloc(), voucher.raw.as_list())?;
-    assert_eq!(rt; read.entries.as_list().len(), 255);
-    let answer = refusal(longer(&rt, &mut suite, &voucher, &next));
-    assert_eq!(rt; answer, Some(ChainFault::TooLong));
+    let mut suite = failing(&rt, 0)?;
+    let bytes = owned(&rt, &mut suite, 255)?;
+    let said = verdict(&rt, bytes.as_list());
+    let more = refusal(grown(&rt, &mut suite, bytes.as_list(), b"\x01"));
+    assert_eq!(rt; said, None);
+    assert_eq!(rt; more, Some(ChainFault::TooLong));
     Ok(())
 }
 
 // ---- writing
 
+/// Whether a voucher without entries that is written of its parts has its bytes.
+fn is_written(rt: &HostRuntime, bytes: &[u8]) -> bool {
+    match read_voucher(rt.alloc(), bytes) {
+        Ok(voucher) => {
+            let Voucher {
+                header,
+                hmac,
+                chain,
+                ..
+            } = voucher;
+            if hmac.kind != 5 {
+                return false;
+            }
+            match raw_of(said(write_voucher(rt.alloc(), header, hmac, chain))) {
+                Ok(raw) => raw.as_list() == bytes,
+                Err(_) => false,
+            }
+        }
+        Err(_) => false,
+    }
+}
+
+fn said(voucher: Result<Voucher, NoMemory>) -> Result<Voucher, ChainFault> {
+    match voucher {
+        Ok(voucher) => Ok(voucher),
+        Err(_) => Err(ChainFault::NoMemory),
+    }
+}
+
 #[test]
 fn a_first_voucher_is_written(rt: HostRuntime) -> Result<(), Fail> {
-    let voucher = voucher_of(&rt, NO_ENTRIES)??;
-    let Voucher {
-        raw,
-        header,
-        hmac,
-        hmac_raw: _hmac_raw,
-        chain,
-        entries: _entries,
-    } = voucher;
-    if hmac.kind != 5 {
-        return Err(Fail::new("another kind"));
-    }
-    let written = write_voucher(rt.alloc(), header, hmac, chain)?;
-    assert_eq!(rt; written.raw.as_list(), raw.as_list());
+    let bytes = bytes_of(&rt, NO_ENTRIES)?;
+    let written = is_written(&rt, bytes.as_slice());
+    assert!(rt; written);
     Ok(())
+}
+
+fn rv_of(rt: &HostRuntime, bytes: &[u8]) -> Result<Option<RvInfo>, NoMemory> {
+    match read_wire(rt.alloc(), bytes) {
+        Ok((item, _read)) => read_rv(rt.alloc(), &item),
+        Err(_) => Ok(None),
+    }
+}
+
+/// Whether the header of a voucher, replaced, has these bytes.
+fn is_replaced(rt: &HostRuntime, bytes: &[u8], rv: &RvInfo, wanted: &[u8]) -> bool {
+    match read_voucher(rt.alloc(), bytes) {
+        Ok(voucher) => replaces(rt, &voucher.header, rv, wanted),
+        Err(_) => false,
+    }
+}
+
+fn replaces(rt: &HostRuntime, header: &Header, rv: &RvInfo, wanted: &[u8]) -> bool {
+    let guid = *b"\x0f\x0e\x0d\x0c\x0b\x0a\x09\x08\x07\x06\x05\x04\x03\x02\x01\x00";
+    let Ok(next) = key(rt, b"\x02") else {
+        return false;
+    };
+    match replacement(rt.alloc(), header, &guid, rv, &next) {
+        Ok(new) => {
+            new.raw.as_list() == wanted
+                && is_header(rt, wanted, b"\x83\x18\xc8\x00\x41\x02".as_slice())
+        }
+        Err(_) => false,
+    }
 }
 
 #[test]
 fn a_header_is_replaced(rt: HostRuntime) -> Result<(), Fail> {
-    let voucher = voucher_of(&rt, NO_ENTRIES)??;
-    let rv = rv_of(&rt, OTHER_RV)?;
-    let next = key(&rt, b"\x02")?;
-    let guid = *b"\x0f\x0e\x0d\x0c\x0b\x0a\x09\x08\x07\x06\x05\x04\x03\x02\x01\x00";
-    let header = replacement(rt.alloc(), &voucher.header, &guid, &rv, &next)?;
+    let bytes = bytes_of(&rt, NO_ENTRIES)?;
+    let other = bytes_of(&rt, OTHER_RV)?;
     let wanted = bytes_of(&rt, REPLACED)?;
-    assert_eq!(rt; header.raw.as_list(), wanted.as_slice());
-    assert_eq!(rt;
-        header.key_raw.as_list(),
-        b"\x83\x18\xc8\x00\x41\x02".as_slice()
-    );
-    assert_eq!(rt;
-        refusal(read_header(rt.alloc(), header.raw.as_list())),
-        None
-    );
+    let replaced = match rv_of(&rt, other.as_slice()) {
+        Ok(Some(rv)) => is_replaced(&rt, bytes.as_slice(), &rv, wanted.as_slice()),
+        _ => false,
+    };
+    assert!(rt; replaced);
     Ok(())
 }
 
-fn rv_of(rt: &HostRuntime, digits: &str) -> Result<RvInfo, Fail> {
-    let bytes = bytes_of(rt, digits)?;
-    let Ok((item, _read)) = read_wire(rt.alloc(), bytes.as_slice()) else {
-        return Err(Fail::new("no item"));
-    };
-    match read_rv(rt.alloc(), &item)? {
-        Some(rv) => Ok(rv),
-        None => Err(Fail::new("no rendezvous information")),
+/// The strength of a key of a type with a body of so many bytes.
+fn strength_of(rt: &HostRuntime, kind: i64, bytes: &[u8]) -> Option<u16> {
+    match key(rt, bytes) {
+        Ok(mut key) => {
+            key.kind = kind;
+            Some(strength(&key))
+        }
+        Err(_) => None,
     }
 }
 
 #[test]
 fn strengths(rt: HostRuntime) -> Result<(), Fail> {
-    assert_eq!(rt; strength(&key(&rt, b"0123456789abcdef")?), 256);
-    assert_eq!(rt; strength(&key(&rt, b"0123456789abcdefg")?), 384);
-    let mut other = key(&rt, b"\x01")?;
-    other.kind = 11;
-    assert_eq!(rt; strength(&other), 384);
-    other.kind = 10;
-    assert_eq!(rt; strength(&other), 256);
+    assert_eq!(rt; strength_of(&rt, 200, b"0123456789abcdef"), Some(256));
+    assert_eq!(rt; strength_of(&rt, 200, b"0123456789abcdefg"), Some(384));
+    assert_eq!(rt; strength_of(&rt, 11, b"\x01"), Some(384));
+    assert_eq!(rt; strength_of(&rt, 10, b"0123456789abcdefg"), Some(256));
     assert_eq!(rt; hash_kind_of(256), -16);
     assert_eq!(rt; hash_kind_of(384), -43);
     Ok(())

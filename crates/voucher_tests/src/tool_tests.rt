@@ -6,7 +6,7 @@ use cbor_core::Blob;
 use key_codec::{KeyBody, PublicKey};
 use std::test::Fail;
 use suite_port::{LabSuite, Signer};
-use voucher_chain::{ChainFault, read_voucher};
+use voucher_chain::{ChainFault, Voucher, read_voucher};
 use voucher_tool::{check, extend_file, refusal, show};
 
 fn bytes_of(rt: &HostRuntime, digits: &str) -> Result<Vec<u8>, Fail> {
@@ -16,9 +16,17 @@ fn bytes_of(rt: &HostRuntime, digits: &str) -> Result<Vec<u8>, Fail> {
 /// Whether a voucher is shown so.
 fn shows(rt: &HostRuntime, digits: &str, text: &str) -> Result<bool, Fail> {
     let bytes = bytes_of(rt, digits)?;
-    let voucher = read_voucher(rt.alloc(), bytes.as_slice())?;
-    let shown = show(rt.alloc(), &voucher)?;
-    Ok(shown.as_list() == text.as_bytes())
+    match read_voucher(rt.alloc(), bytes.as_slice()) {
+        Ok(voucher) => Ok(is_shown(rt, &voucher, text)),
+        Err(_) => Ok(false),
+    }
+}
+
+fn is_shown(rt: &HostRuntime, voucher: &Voucher, text: &str) -> bool {
+    match show(rt.alloc(), voucher) {
+        Ok(shown) => shown.as_list() == text.as_bytes(),
+        Err(_) => false,
+    }
 }
 
 #[test]
@@ -31,8 +39,10 @@ fn vouchers_are_shown(rt: HostRuntime) -> Result<(), Fail> {
 /// What the check of a voucher gives.
 fn checked(rt: &HostRuntime, bytes: &[u8]) -> Result<Blob, ChainFault> {
     let mut suite = LabSuite::new(Vec::new(rt.alloc()));
-    let voucher = read_voucher(rt.alloc(), bytes)?;
-    check(rt.alloc(), &mut suite, &voucher)
+    match read_voucher(rt.alloc(), bytes) {
+        Ok(voucher) => check(rt.alloc(), &mut suite, &voucher),
+        Err(fault) => Err(fault),
+    }
 }
 
 #[test]
