@@ -6,3 +6,5 @@ pub mod TookMore
 pub mod EndingMore
 pub mod RvCounts
 pub mod OneInput
+pub mod TextsMore
+pub mod VouchersMore
