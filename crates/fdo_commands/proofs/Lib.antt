@@ -7,4 +7,3 @@ pub mod EndingMore
 pub mod RvCounts
 pub mod OneInput
 pub mod TextsMore
-pub mod VouchersMore

@@ -37,9 +37,9 @@ type Case = (
 static CASES: [Case; 15] = [
     ("show", None, 256, [0, 0], SHOWN, Status::Done),
     ("check", None, 256, [0, 0], CHECKED, Status::Done),
-    ("show", Some(201), 256, [0, 0], SHOWN, Status::Done),
+    ("show", Some(240), 256, [0, 0], SHOWN, Status::Done),
     ("check", Some(9), 256, [0, 0], b"refused badprevhash 0\n", Status::Refused),
-    ("check", Some(201), 256, [0, 0], b"refused badsignature 0\n", Status::Refused),
+    ("check", Some(240), 256, [0, 0], b"refused badsignature 0\n", Status::Refused),
     ("check", Some(9), 256, [0, 1], b"", Status::Refused),
     ("show", None, 4, [0, 0], b"fault input 3\n", Status::Input),
     ("check", None, 4, [0, 0], b"fault input 3\n", Status::Input),
