@@ -6,3 +6,4 @@ pub mod TookMore
 pub mod EndingMore
 pub mod RvCounts
 pub mod OneInput
+pub mod TextsMore

@@ -4,5 +4,7 @@ pub mod Input
 pub mod Answering
 pub mod Stream
 pub mod Ending
+pub mod Texts
+pub mod Vouchers
 pub mod Commands
 pub mod Ran

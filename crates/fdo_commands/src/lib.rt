@@ -10,7 +10,9 @@ mod line;
 mod lines;
 pub mod status;
 mod step;
+mod texts;
 pub mod top;
+mod vouchers;
 
 pub use command::Command;
 pub use status::Status;

@@ -15,6 +15,8 @@ pub enum Status {
     NoMemory = 7,
     /// The input is longer than 16,777,216 bytes.
     Limit = 8,
+    /// The input is of the command's form, and refused: a voucher that does not hold, or one that is too long.
+    Refused = 9,
     /// All was done, but the source of random draws failed meanwhile.
     Random = 11,
 }

@@ -9,17 +9,20 @@ use crate::command::Command;
 use crate::fault_line::end_with;
 use crate::status::Status;
 use crate::step::step;
+use crate::vouchers::{voucher_check, voucher_show};
 use cbor_core::Text;
 use fdo_ports::{Random, Sink, Source};
 use rendezvous::{RvHandler, Server};
 use std::alloc::Global;
+use suite_port::Suite;
 
 /// Runs the command that the words name over these objects of the outside, and says how it ended.
-pub fn fdo<I: Source, O: Sink, N: Random>(
+pub fn fdo<I: Source, O: Sink, S: Suite, N: Random>(
     alloc: Global,
     words: &[Text],
     input: &mut I,
     output: &mut O,
+    suite: &mut S,
     random: &mut N,
 ) -> Status
     ensures words { (result ≡ status.Words) ↔ ((command : Command) → Names words.now command → ⊥) }
@@ -30,7 +33,7 @@ pub fn fdo<I: Source, O: Sink, N: Random>(
         (outside (I.Channel.left input.new) (I.Channel.read_faults input.new)
         (O.Channel.written output.new) (O.Channel.write_faults output.new)
         (N.draws random.new) (N.faults random.new)) }
-    ensures ran { (command : Command) → Names words.now command → Ran command
+    ensures ran { (command : Command) → Names words.now command → Ran S.Verifier.verifies command
         (outside (I.Channel.left input.old) (I.Channel.read_faults input.old)
         (O.Channel.written output.old) (O.Channel.write_faults output.old)
         (N.draws random.old) (N.faults random.old))
@@ -43,6 +46,8 @@ pub fn fdo<I: Source, O: Sink, N: Random>(
     ensures read { result ≡ status.Read → Rises (I.Channel.read_faults input.old) (I.Channel.read_faults input.new) }
     ensures write { result ≡ status.Write → Rises (O.Channel.write_faults output.old) (O.Channel.write_faults output.new) }
     ensures random_failed { result ≡ status.Random → Rises (N.faults random.old) (N.faults random.new) }
+    ensures held { S.Holder.held suite.new ≡ S.Holder.held suite.old }
+    ensures suite_faults { S.Holder.faults suite.new ≡ S.Holder.faults suite.old }
     ensures input_written { I.Channel.written input.new ≡ I.Channel.written input.old }
     ensures input_write_faults { I.Channel.write_faults input.new ≡ I.Channel.write_faults input.old }
     ensures output_left { O.Channel.left output.new ≡ O.Channel.left output.old }
@@ -50,6 +55,8 @@ pub fn fdo<I: Source, O: Sink, N: Random>(
 {
     match Command::of(words) {
         Some(Command::StepRendezvous) => step_rendezvous(alloc, input, output, random),
+        Some(Command::VoucherShow) => voucher_show(alloc, input, output),
+        Some(Command::VoucherCheck) => voucher_check(alloc, input, output, suite),
         None => {
             end_with(output, b"fault words\n");
             Status::Words

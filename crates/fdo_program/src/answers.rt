@@ -9,16 +9,18 @@ use cbor_core::Text;
 use fdo_commands::{Status, fdo};
 use fdo_ports::{Random, Sink, Source};
 use std::alloc::Global;
+use suite_port::Suite;
 
 /// Answers the program's own words, and hands all others to the top call.
-pub fn answer<I: Source, O: Sink, N: Random>(
+pub fn answer<I: Source, O: Sink, S: Suite, N: Random>(
     alloc: Global,
     words: &[Text],
     input: &mut I,
     output: &mut O,
+    suite: &mut S,
     random: &mut N,
 ) -> Status
-    ensures ran { RanProgram words.now
+    ensures ran { RanProgram S.Verifier.verifies words.now
         (outside (I.Channel.left input.old) (I.Channel.read_faults input.old) (O.Channel.written output.old) (O.Channel.write_faults output.old) (N.draws random.old) (N.faults random.old))
         (outside (I.Channel.left input.new) (I.Channel.read_faults input.new) (O.Channel.written output.new) (O.Channel.write_faults output.new) (N.draws random.new) (N.faults random.new)) result }
     ensures done { result ≡ status.Done → (N.faults random.new ≡ N.faults random.old)
@@ -27,12 +29,14 @@ pub fn answer<I: Source, O: Sink, N: Random>(
     ensures read { result ≡ status.Read → Rises (I.Channel.read_faults input.old) (I.Channel.read_faults input.new) }
     ensures write { result ≡ status.Write → Rises (O.Channel.write_faults output.old) (O.Channel.write_faults output.new) }
     ensures random_failed { result ≡ status.Random → Rises (N.faults random.old) (N.faults random.new) }
+    ensures held { S.Holder.held suite.new ≡ S.Holder.held suite.old }
+    ensures suite_faults { S.Holder.faults suite.new ≡ S.Holder.faults suite.old }
 {
     match OwnWord::of(words) {
         Some(word) => match word.answer(output) {
             Ok(()) => Status::Done,
             Err(_) => Status::Write,
         },
-        None => fdo(alloc, words, input, output, random),
+        None => fdo(alloc, words, input, output, suite, random),
     }
 }

@@ -1,6 +1,8 @@
 /// What `--help` writes.
 pub const HELP: &str = "\
 usage: fdo step rendezvous
+       fdo voucher show
+       fdo voucher check
        fdo --help
        fdo --version
 
@@ -9,27 +11,40 @@ standard output.
 
 Commands
   step rendezvous   the rendezvous server, message by message
+  voucher show      what an ownership voucher says; its bytes are the input
+  voucher check     whether its chain of owners holds, with the signatures of
+                    the laboratory suite
 
-Input: one line for each message
+Input of step: one line for each message
   KIND TOKEN BODY   and a line feed, with one space between the words
   KIND              the message type, a decimal number from 0 to 255
   TOKEN             - where the message has no session token, else the token
                     without `Bearer `: 1 to 1,017 visible ASCII characters
   BODY              the message body in lower-case hex, of at least one byte
 
-Output: one line for each message
+Output of step: one line for each message
   KIND TOKEN BODY   the answer
   ended             where there is none
+
+Output of voucher show: version, GUID, DeviceInfo, the manufacturer's key, HMAC,
+certificates, rendezvous instructions and entries, a line each
+
+Output of voucher check
+  ok N owner HASH   the number of entries, and the SHA-256 of the last owner's
+                    key
 
 Exit status, and the last line that is written for it
    0  done: the input was read to its end
    2  the words are no command: `fault words`
    3  the input is wrong, and nothing is answered: `fault input N`, where N is
-      the offset of the first wrong line
+      the offset of the first wrong line, or of the first wrong byte of a
+      voucher
    4  reading the input failed: `fault read`
    5  writing the output failed
    7  out of memory
    8  the input has more than 16,777,216 bytes: `fault limit`
+   9  the voucher is refused: `refused CAUSE`, and the number of the entry where
+      it has one
   11  the source of random draws failed: `fault random`
 ";
 

@@ -17,6 +17,7 @@ use fdo_commands::Status;
 use std::process::ExitCode;
 use std_sink::StdSink;
 use std_source::StdSource;
+use suite_port::LabSuite;
 use system_random::SystemRandom;
 use words::read_words;
 
@@ -31,12 +32,14 @@ fn run(rt: &HostRuntime) -> Status {
     };
     let mut input = StdSource::new(rt.stdin());
     let mut output = StdSink::new(rt.stdout());
+    let mut suite = LabSuite::new(Vec::new(rt.alloc()));
     let mut random = SystemRandom::new(rt);
     answer(
         rt.alloc(),
         words.as_slice(),
         &mut input,
         &mut output,
+        &mut suite,
         &mut random,
     )
 }

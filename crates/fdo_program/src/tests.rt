@@ -10,6 +10,7 @@ use fdo_ports::{Failed, ListRandom, MemorySink, PlainSource, Random, Sink, Sourc
 use std::io;
 use std::io::{Read, Write};
 use std::random::RandomSource;
+use suite_port::LabSuite;
 
 /// An object on which each call fails.
 #[derive(Debug, Drop)]
@@ -114,12 +115,14 @@ fn version_is_written(rt: HostRuntime) {
         fails.push(fail).expect(&rt, "memory");
         let mut input = PlainSource::new(Vec::new(rt.alloc()));
         let mut output = MemorySink::new(Vec::new(rt.alloc()), fails);
+        let mut suite = LabSuite::new(Vec::new(rt.alloc()));
         let mut random = ListRandom::new(Vec::new(rt.alloc()), Vec::new(rt.alloc()));
         let ending = answer(
             rt.alloc(),
             words.as_slice(),
             &mut input,
             &mut output,
+            &mut suite,
             &mut random,
         );
         assert_eq!(rt; ending, status);

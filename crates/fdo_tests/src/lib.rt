@@ -6,3 +6,5 @@
 mod message_tests;
 #[cfg(test)]
 mod step_tests;
+#[cfg(test)]
+mod voucher_tests;

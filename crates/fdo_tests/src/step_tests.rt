@@ -3,6 +3,7 @@ use cbor_core::Text;
 use fdo_commands::{Status, fdo};
 use fdo_ports::{ListRandom, MemorySink, MemorySource, PlainSink, PlainSource};
 use std::alloc::{AllocError, Global};
+use suite_port::LabSuite;
 
 /// The draws 00 01 .. 0f and 10 11 .. 1f.
 const NONCE: [u8; 16] = [0, 1, 2, 3, 4, 5, 6, 7, 8, 9, 10, 11, 12, 13, 14, 15];
@@ -127,12 +128,14 @@ fn run(alloc: Global, case: &Case, cut: bool) -> Result<(Vec<u8>, u8), AllocErro
     let words = words(alloc, case.0)?;
     let mut input = MemorySource::new(pieces(alloc, case.1, cut)?, numbers(alloc, read)?);
     let mut output = MemorySink::new(Vec::new(alloc), numbers(alloc, write)?);
+    let mut suite = LabSuite::new(Vec::new(alloc));
     let mut random = ListRandom::new(draws(alloc, case.2)?, numbers(alloc, draw)?);
     let status = fdo(
         alloc,
         words.as_slice(),
         &mut input,
         &mut output,
+        &mut suite,
         &mut random,
     );
     Ok((Vec::from_slice(alloc, output.written())?, status as u8))
@@ -156,12 +159,14 @@ fn a_longer_input_is_refused(rt: HostRuntime) -> Result<(), AllocError> {
     let words = words(alloc, "step rendezvous")?;
     for (length, status) in [(16_777_216, Status::Input), (16_777_217, Status::Limit)] {
         let mut input = PlainSource::new(vec![in alloc; 0; length]?);
+        let mut suite = LabSuite::new(Vec::new(alloc));
         let mut random = ListRandom::new(Vec::new(alloc), Vec::new(alloc));
         let ended = fdo(
             alloc,
             words.as_slice(),
             &mut input,
             &mut PlainSink::new(),
+            &mut suite,
             &mut random,
         );
         assert_eq!(rt; ended, status);

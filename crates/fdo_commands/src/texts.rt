@@ -1,0 +1,74 @@
+ghost use Rattle.std.specs.Prelude.{◌≡◌};
+ghost use Rattle.fdo_commands.specs.Texts.{InputFails, WritesFound, WritesTold};
+
+use crate::fault_line::{end_with, end_with_place};
+use crate::input::InputFault;
+use crate::status::Status;
+use cbor_core::{Blob, NoMemory};
+use fdo_ports::{Sink, write_all};
+
+/// What a command that writes one text for its whole input tells of it.
+#[derive(Debug, Drop)]
+pub(crate) enum Told {
+    /// The text.
+    Text(Blob),
+    /// The line of a refusal.
+    Refused(Blob),
+    /// The input is not of the command's form, at this byte.
+    Wrong(usize),
+}
+
+/// Writes what is told of the input, and says how the command ended.
+pub(crate) fn end_found<O: Sink>(output: &mut O, found: Result<Told, NoMemory>) -> Status
+    ensures found { WritesFound found (O.Channel.written output.old) (O.Channel.write_faults output.old)
+        (O.Channel.written output.new) (O.Channel.write_faults output.new) result }
+    ensures same_left { O.Channel.left output.new ≡ O.Channel.left output.old }
+    ensures same_read_faults { O.Channel.read_faults output.new ≡ O.Channel.read_faults output.old }
+{
+    match found {
+        Ok(told) => end_told(output, told),
+        Err(_) => Status::NoMemory,
+    }
+}
+
+fn end_told<O: Sink>(output: &mut O, told: Told) -> Status
+    ensures told { WritesTold told (O.Channel.written output.old) (O.Channel.write_faults output.old)
+        (O.Channel.written output.new) (O.Channel.write_faults output.new) result }
+    ensures same_left { O.Channel.left output.new ≡ O.Channel.left output.old }
+    ensures same_read_faults { O.Channel.read_faults output.new ≡ O.Channel.read_faults output.old }
+{
+    match told {
+        Told::Text(text) => match write_all(output, text.as_list()) {
+            Ok(()) => Status::Done,
+            Err(_) => Status::Write,
+        },
+        Told::Refused(line) => {
+            end_with(output, line.as_list());
+            Status::Refused
+        }
+        Told::Wrong(place) => {
+            end_with_place(output, place);
+            Status::Input
+        }
+    }
+}
+
+/// Writes the last line for an input that is not read to its end, and says how the command ended.
+pub(crate) fn end_unread<O: Sink>(output: &mut O, fault: InputFault) -> Status
+    ensures fails { InputFails fault (O.Channel.written output.old) (O.Channel.write_faults output.old)
+        (O.Channel.written output.new) (O.Channel.write_faults output.new) result }
+    ensures same_left { O.Channel.left output.new ≡ O.Channel.left output.old }
+    ensures same_read_faults { O.Channel.read_faults output.new ≡ O.Channel.read_faults output.old }
+{
+    match fault {
+        InputFault::Read => {
+            end_with(output, b"fault read\n");
+            Status::Read
+        }
+        InputFault::Limit => {
+            end_with(output, b"fault limit\n");
+            Status::Limit
+        }
+        InputFault::NoMemory => Status::NoMemory,
+    }
+}

@@ -1,0 +1,193 @@
+ghost use Rattle.std.specs.Prelude.{◌≡◌, ◌≤◌, ◌≢◌, length, IfOk};
+ghost use Rattle.fdo_ports.specs.Count.{Rises};
+ghost use Rattle.fdo_commands.specs.declared.status.Status.TheVariants as status;
+ghost use Rattle.fdo_commands.specs.declared.texts.Told.TheVariants as told;
+ghost use Rattle.fdo_commands.specs.Ending.{streams};
+ghost use Rattle.fdo_commands.specs.Texts.{TextEnds};
+ghost use Rattle.fdo_commands.specs.Vouchers.{check_of, fault_place as place_of, refused_as, show_of, told_as};
+ghost use Rattle.voucher_chain.specs.declared.fault.ChainFault.TheVariants.{NoMemory as OutOfMemory};
+ghost use Rattle.voucher_tool.specs.Check.{check_told};
+ghost use Rattle.voucher_tool.specs.Show.{show_text};
+
+use crate::input::read_input;
+use crate::status::Status;
+use crate::texts::{Told, end_found, end_unread};
+use cbor_core::NoMemory;
+use fdo_ports::{Sink, Source};
+use std::alloc::Global;
+use suite_port::Suite;
+use voucher_chain::{ChainFault, Voucher, read_voucher};
+use voucher_tool::{check, refusal, show};
+
+// ---- the commands
+
+/// Writes what a voucher says.
+pub(crate) fn voucher_show<I: Source, O: Sink>(
+    alloc: Global,
+    input: &mut I,
+    output: &mut O,
+) -> Status
+    ensures ends { TextEnds show_of
+        (streams (I.Channel.left input.old) (I.Channel.read_faults input.old)
+        (O.Channel.written output.old) (O.Channel.write_faults output.old))
+        (streams (I.Channel.left input.new) (I.Channel.read_faults input.new)
+        (O.Channel.written output.new) (O.Channel.write_faults output.new)) result }
+    ensures done { result ≡ status.Done → (I.Channel.read_faults input.new ≡ I.Channel.read_faults input.old)
+        × (O.Channel.write_faults output.new ≡ O.Channel.write_faults output.old) }
+    ensures read { result ≡ status.Read → Rises (I.Channel.read_faults input.old) (I.Channel.read_faults input.new) }
+    ensures write { result ≡ status.Write → Rises (O.Channel.write_faults output.old) (O.Channel.write_faults output.new) }
+    ensures no_words { result ≢ status.Words }
+    ensures no_random { result ≢ status.Random }
+    ensures input_written { I.Channel.written input.new ≡ I.Channel.written input.old }
+    ensures input_write_faults { I.Channel.write_faults input.new ≡ I.Channel.write_faults input.old }
+    ensures output_left { O.Channel.left output.new ≡ O.Channel.left output.old }
+    ensures output_read_faults { O.Channel.read_faults output.new ≡ O.Channel.read_faults output.old }
+{
+    show_input(alloc, input, output)
+}
+
+fn show_input<I: Source, O: Sink>(alloc: Global, input: &mut I, output: &mut O) -> Status
+    ensures ends { TextEnds show_of
+        (streams (I.Channel.left input.old) (I.Channel.read_faults input.old)
+        (O.Channel.written output.old) (O.Channel.write_faults output.old))
+        (streams (I.Channel.left input.new) (I.Channel.read_faults input.new)
+        (O.Channel.written output.new) (O.Channel.write_faults output.new)) result }
+    ensures input_written { I.Channel.written input.new ≡ I.Channel.written input.old }
+    ensures input_write_faults { I.Channel.write_faults input.new ≡ I.Channel.write_faults input.old }
+    ensures output_left { O.Channel.left output.new ≡ O.Channel.left output.old }
+    ensures output_read_faults { O.Channel.read_faults output.new ≡ O.Channel.read_faults output.old }
+{
+    match read_input(alloc, input) {
+        Ok(bytes) => end_found(output, show_bytes(alloc, bytes.as_slice())),
+        Err(fault) => end_unread(output, fault),
+    }
+}
+
+/// Checks a voucher's chain of owners.
+pub(crate) fn voucher_check<I: Source, O: Sink, S: Suite>(
+    alloc: Global,
+    input: &mut I,
+    output: &mut O,
+    suite: &mut S,
+) -> Status
+    ensures ends { TextEnds (check_of S.Verifier.verifies)
+        (streams (I.Channel.left input.old) (I.Channel.read_faults input.old)
+        (O.Channel.written output.old) (O.Channel.write_faults output.old))
+        (streams (I.Channel.left input.new) (I.Channel.read_faults input.new)
+        (O.Channel.written output.new) (O.Channel.write_faults output.new)) result }
+    ensures done { result ≡ status.Done → (I.Channel.read_faults input.new ≡ I.Channel.read_faults input.old)
+        × (O.Channel.write_faults output.new ≡ O.Channel.write_faults output.old) }
+    ensures read { result ≡ status.Read → Rises (I.Channel.read_faults input.old) (I.Channel.read_faults input.new) }
+    ensures write { result ≡ status.Write → Rises (O.Channel.write_faults output.old) (O.Channel.write_faults output.new) }
+    ensures no_words { result ≢ status.Words }
+    ensures no_random { result ≢ status.Random }
+    ensures held { S.Holder.held suite.new ≡ S.Holder.held suite.old }
+    ensures suite_faults { S.Holder.faults suite.new ≡ S.Holder.faults suite.old }
+    ensures input_written { I.Channel.written input.new ≡ I.Channel.written input.old }
+    ensures input_write_faults { I.Channel.write_faults input.new ≡ I.Channel.write_faults input.old }
+    ensures output_left { O.Channel.left output.new ≡ O.Channel.left output.old }
+    ensures output_read_faults { O.Channel.read_faults output.new ≡ O.Channel.read_faults output.old }
+{
+    check_input(alloc, input, output, suite)
+}
+
+fn check_input<I: Source, O: Sink, S: Suite>(
+    alloc: Global,
+    input: &mut I,
+    output: &mut O,
+    suite: &mut S,
+) -> Status
+    ensures ends { TextEnds (check_of S.Verifier.verifies)
+        (streams (I.Channel.left input.old) (I.Channel.read_faults input.old)
+        (O.Channel.written output.old) (O.Channel.write_faults output.old))
+        (streams (I.Channel.left input.new) (I.Channel.read_faults input.new)
+        (O.Channel.written output.new) (O.Channel.write_faults output.new)) result }
+    ensures held { S.Holder.held suite.new ≡ S.Holder.held suite.old }
+    ensures suite_faults { S.Holder.faults suite.new ≡ S.Holder.faults suite.old }
+    ensures input_written { I.Channel.written input.new ≡ I.Channel.written input.old }
+    ensures input_write_faults { I.Channel.write_faults input.new ≡ I.Channel.write_faults input.old }
+    ensures output_left { O.Channel.left output.new ≡ O.Channel.left output.old }
+    ensures output_read_faults { O.Channel.read_faults output.new ≡ O.Channel.read_faults output.old }
+{
+    match read_input(alloc, input) {
+        Ok(bytes) => end_found(output, check_bytes(alloc, suite, bytes.as_slice())),
+        Err(fault) => end_unread(output, fault),
+    }
+}
+
+// ---- what they tell of their input
+
+fn show_bytes(alloc: Global, bytes: &[u8]) -> Result<Told, NoMemory>
+    ensures { IfOk result (λ what. what ≡ show_of bytes.now) }
+{
+    match read_voucher(alloc, bytes) {
+        Ok(voucher) => shown(alloc, &voucher),
+        Err(fault) => not_shown(fault),
+    }
+}
+
+fn shown(alloc: Global, voucher: &Voucher) -> Result<Told, NoMemory>
+    ensures { IfOk result (λ what. what ≡ told.Text (show_text voucher.now)) }
+{
+    Ok(Told::Text(show(alloc, voucher)?))
+}
+
+fn not_shown(fault: ChainFault) -> Result<Told, NoMemory>
+    ensures { IfOk result (λ what. (fault ≢ OutOfMemory) × (what ≡ told.Wrong (place_of fault))) }
+{
+    match fault {
+        ChainFault::NoMemory => Err(NoMemory),
+        _ => Ok(Told::Wrong(fault_place(fault))),
+    }
+}
+
+fn check_bytes<S: Suite>(alloc: Global, suite: &mut S, bytes: &[u8]) -> Result<Told, NoMemory>
+    ensures told { IfOk result (λ what. what ≡ check_of S.Verifier.verifies bytes.now) }
+    ensures held { S.Holder.held suite.new ≡ S.Holder.held suite.old }
+    ensures suite_faults { S.Holder.faults suite.new ≡ S.Holder.faults suite.old }
+{
+    match read_voucher(alloc, bytes) {
+        Ok(voucher) => checked(alloc, suite, &voucher),
+        Err(fault) => refused(alloc, fault),
+    }
+}
+
+fn checked<S: Suite>(alloc: Global, suite: &mut S, voucher: &Voucher) -> Result<Told, NoMemory>
+    requires { length voucher.now.entries ≤ 255 }
+    ensures told { IfOk result (λ what. what ≡ told_as (check_told S.Verifier.verifies voucher.now)) }
+    ensures held { S.Holder.held suite.new ≡ S.Holder.held suite.old }
+    ensures suite_faults { S.Holder.faults suite.new ≡ S.Holder.faults suite.old }
+{
+    match check(alloc, suite, voucher) {
+        Ok(text) => Ok(Told::Text(text)),
+        Err(fault) => refused(alloc, fault),
+    }
+}
+
+fn refused(alloc: Global, fault: ChainFault) -> Result<Told, NoMemory>
+    ensures { IfOk result (λ what. (fault ≢ OutOfMemory) × (what ≡ refused_as fault)) }
+{
+    match fault {
+        ChainFault::NoMemory => Err(NoMemory),
+        _ => line_or_place(alloc, fault),
+    }
+}
+
+fn line_or_place(alloc: Global, fault: ChainFault) -> Result<Told, NoMemory>
+    ensures { IfOk result (λ what. what ≡ refused_as fault) }
+{
+    match refusal(alloc, fault) {
+        Ok(Some(line)) => Ok(Told::Refused(line)),
+        Ok(None) => Ok(Told::Wrong(fault_place(fault))),
+        Err(_) => Err(NoMemory),
+    }
+}
+
+fn fault_place(fault: ChainFault) -> usize
+    ensures { result ≡ place_of fault }
+{
+    match fault {
+        ChainFault::BadShape(place) => place,
+        _ => 0,
+    }
+}
