@@ -1,11 +1,12 @@
-ghost use Rattle.std.specs.Prelude.{◌≡◌, [], None, true, false};
+ghost use Rattle.std.specs.Prelude.{◌≡◌, [], None, Some, true, false, refl};
 ghost use Rattle.std.proofs.Common.{rules};
-ghost use Rattle.voucher_tests.specs.Mute.{mute_held};
+ghost use Rattle.voucher_tests.specs.Mute.{mute_held, mute_bits};
 
 use std::alloc::Global;
 use suite_port::{Aead, CertReader, Holder, Kex, Signer, Suite, SuiteFault, Verifier};
 
-/// A suite that holds the one key that it was made with, and has no algorithm for it or for anything else.
+/// A suite that holds the one key that it was made with, and has no algorithm for it. It has one to
+/// seal, which leaves texts as they are.
 #[derive(Debug, Drop)]
 pub struct MuteSuite {
     key: Vec<u8>,
@@ -109,18 +110,18 @@ impl Kex for MuteSuite {
 }
 
 impl Aead for MuteSuite {
-    ghost bits = { λ _. None };
+    ghost bits = { mute_bits };
 
-    ghost seals = { λ _ _ _ _ _. [] };
+    ghost seals = { λ _ _ _ _ plain. plain };
 
-    ghost opens = { λ _ _ _ _ _. None };
+    ghost opens = { λ _ _ _ _ text. Some text };
 
-    ghost opens_sealed = { Prim.search rules };
+    ghost opens_sealed = { λ _ _ _ _ _ _ _ _ _. refl };
 
     ghost two_keys = { Prim.search rules };
 
-    fn key_bits(&self, _alg: i64) -> Option<u16> {
-        None
+    fn key_bits(&self, alg: i64) -> Option<u16> {
+        if alg == 1 { Some(128) } else { None }
     }
 
     fn seal(
@@ -130,21 +131,24 @@ impl Aead for MuteSuite {
         _key: &[u8],
         _iv: &[u8; 12],
         _aad: &[u8],
-        _plain: &[u8],
+        plain: &[u8],
     ) -> Result<Vec<u8>, SuiteFault> {
-        Ok(Vec::new(alloc))
+        Ok(Vec::from_slice(alloc, plain)?)
     }
 
     fn open(
         &mut self,
-        _alloc: Global,
+        alloc: Global,
         _alg: i64,
         _key: &[u8],
         _iv: &[u8; 12],
         _aad: &[u8],
-        _sealed: &[u8],
+        sealed: &[u8],
     ) -> Result<Option<Vec<u8>>, SuiteFault> {
-        Ok(None)
+        match Vec::from_slice(alloc, sealed) {
+            Ok(plain) => Ok(Some(plain)),
+            Err(error) => Err(error.into()),
+        }
     }
 }
 
