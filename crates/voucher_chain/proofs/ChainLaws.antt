@@ -206,6 +206,14 @@ chain_found v w (Err f) e = tt
 pub chain_only : (v : Verifies) (w : Voucher) (r : Result (Unit {0}) ChainFault) → Answers (checked (first_break v w)) r → (keys : List PublicKey) → Chain v w keys → Answers (Ok tt) r
 chain_only v w r e keys h = subst (λ (told : Result (Unit {0}) ChainFault). Answers told r) (ap checked (chain_again v w keys h)) e
 
+-- what the check of one entry answers
+pub entry_found : (v : Verifies) (header : Header) (index : ℕ) (before : List ℕ) (key : PublicKey) (e : Entry) (r : Result (Unit {0}) ChainFault) → Answers (checked (entry_break v header index before key e)) r → IfOk r (λ _. Follows v header before key e)
+entry_found v header index before key e (Ok x) h = follows_found v header index before key e (none_checked (entry_break v header index before key e) h)
+entry_found v header index before key e (Err f) h = tt
+
+pub entry_only : (v : Verifies) (header : Header) (index : ℕ) (before : List ℕ) (key : PublicKey) (e : Entry) (r : Result (Unit {0}) ChainFault) → Answers (checked (entry_break v header index before key e)) r → Follows v header before key e → Answers (Ok tt) r
+entry_only v header index before key e r h follows = subst (λ (told : Result (Unit {0}) ChainFault). Answers told r) (ap checked (follows_again v header index before key e follows)) h
+
 -- ---- one more entry
 
 last_more : (key : PublicKey) (es : List Entry) (e : Entry) → last_key key (es ++ e ∷ []) ≡ e.key

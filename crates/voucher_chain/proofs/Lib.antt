@@ -1,4 +1,11 @@
 pub mod Alls
+pub mod BackLaws
 pub mod ChainLaws
 pub mod DeepLaws
+pub mod HeaderBack
+pub mod InMemory
+pub mod NewBack
+pub mod Places
 pub mod ReadLaws
+pub mod Seen
+pub mod WholeBack

@@ -1,19 +1,21 @@
 -- A voucher with one more entry, and the strength of the hashes that are made for it.
-use Rattle.std.specs.Prelude.{◌≡◌, ℕ, ◌==◌, ℤ, pos, [], ◌∷◌, ◌++◌, length, nat_lt, Bool, true, false, ◌||◌, ◌&&◌, Option, None, IsSome, Result, Ok, Err, if◌then◌else◌}
+use Rattle.std.specs.Prelude.{◌≡◌, ℕ, ◌==◌, ℤ, pos, List, [], ◌∷◌, ◌++◌, length, ◌<◌, nat_lt, Bool, true, false, ◌||◌, ◌&&◌, Option, None, Some, IsSome, Result, Ok, Err, if◌then◌else◌}
 use Rattle.std.specs.Ordering.{int_eq}
 use Rattle.cbor_core.specs.Deterministic.{det}
 use Rattle.hash_hmac.specs.Kind.{sha256_kind, sha384_kind}
 use Rattle.key_codec.specs.declared.key.KeyBody.{KeyBody}
 use Rattle.key_codec.specs.declared.key.KeyBody.TheVariants as body
 use Rattle.key_codec.specs.declared.key.PublicKey.{PublicKey}
-use Rattle.cose_envelopes.specs.Envelope.{item_of_sign1}
+use Rattle.key_codec.specs.Key.{IsKey}
+use Rattle.cose_envelopes.specs.Envelope.{algorithm_in, item_of_sign1, protected_of}
 use Rattle.suite_port.specs.Answer.{Rises}
 use Rattle.voucher_chain.specs.declared.fault.ChainFault.{ChainFault}
 use Rattle.voucher_chain.specs.declared.fault.ChainFault.TheVariants as fault
 use Rattle.voucher_chain.specs.declared.entry.Entry.{Entry}
 use Rattle.voucher_chain.specs.declared.voucher.Voucher.{Voucher}
 use Rattle.voucher_chain.specs.Chain.{Verifies, Follows, front, last_bytes, last_key}
-use Rattle.voucher_chain.specs.Entry.{item_of_payload}
+use Rattle.voucher_chain.specs.Entry.{item_of_payload, IsEntry}
+use Rattle.voucher_chain.specs.Reading.{IsInMemory, IsVoucher}
 use Rattle.voucher_chain.specs.Voucher.{voucher_with}
 
 -- ---- strength
@@ -33,22 +35,41 @@ hash_kind bits = if bits == 384 then sha384_kind else sha256_kind
 
 -- ---- the longer voucher
 
--- an entry that goes on from a voucher to a next owner, with hashes of the kind of the header's key
+-- an entry that goes on from a voucher to a next owner, with hashes of the kind of the header's key; its protected header
+-- names the algorithm of its signature, and nothing else
 pub record IsNext (verifies : Verifies) (v : Voucher) (next : PublicKey) (entry : Entry) : Type 0 where
   pub follows : Follows verifies v.header (last_bytes (front v) v.entries) (last_key v.header.key v.entries) entry
   pub prev : entry.prev.kind ≡ hash_kind (strength_of v.header.key)
   pub hdr : entry.hdr.kind ≡ hash_kind (strength_of v.header.key)
   pub extra : entry.extra ≡ None
   pub key : entry.key ≡ next
+  pub protected : entry.sign.protected ≡ protected_of entry.sign.alg
+  pub names : algorithm_in entry.sign.protected ≡ Some entry.sign.alg
   pub unprotected : entry.sign.unprotected ≡ []
   pub payload : entry.sign.payload ≡ det (item_of_payload entry.prev entry.hdr next)
   pub raw : entry.raw ≡ det (item_of_sign1 entry.sign)
 
--- all that the voucher had, byte for byte, and such an entry
+-- where the next owner's key is of the form, the entry is read from its bytes as it stands
+abbrev pub IsReadAgain : PublicKey → Entry → Type 0
+IsReadAgain next entry = IsKey next → IsEntry entry.raw entry
+
+-- the same for the voucher with the entry, where the one without it was read
+abbrev pub IsReadBack : Voucher → PublicKey → Voucher → Type 0
+IsReadBack v next longer = (bytes : List ℕ) → IsVoucher bytes v → IsKey next → IsVoucher longer.raw longer
+
+-- all that the voucher had, its header, HMAC and entries byte for byte, and such an entry
 pub record IsExtended (verifies : Verifies) (v : Voucher) (next : PublicKey) (longer : Voucher) : Type 0 where
   pub entry : Entry
   pub is_next : IsNext verifies v next entry
+  pub back : IsReadAgain next entry
   pub all : longer ≡ voucher_with v.header v.hmac v.hmac_raw v.chain (v.entries ++ entry ∷ [])
+
+-- ---- bytes in memory
+
+pub record AreSized (v longer : Voucher) : Type 0 where
+  pub few : length v.entries < 255
+  pub old : IsInMemory v.raw
+  pub new : IsInMemory longer.raw
 
 -- ---- refusals
 

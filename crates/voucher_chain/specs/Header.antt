@@ -1,7 +1,7 @@
 -- The header of an ownership voucher (FIDO Device Onboard 1.1, section 3.4.1, "OVHeader"): an array of the version, the
 -- GUID, the rendezvous information, DeviceInfo, the manufacturer's key, and the hash of the device's certificate chain
 -- or null.
-use Rattle.std.specs.Prelude.{ℕ, List, [], ◌∷◌, Bool, false, Option, Some, None, if◌then◌else◌, ◌==◌, is_some, Result}
+use Rattle.std.specs.Prelude.{◌≡◌, IfSome, length, ℕ, List, [], ◌∷◌, Bool, false, Option, Some, None, if◌then◌else◌, ◌==◌, is_some, Result}
 use Rattle.cbor_core.specs.declared.item.Item.{Item, out-Item}
 use Rattle.cbor_core.specs.declared.item.Item.TheOpen.{Item-F}
 use Rattle.cbor_core.specs.declared.item.Item.TheVariants as items
@@ -10,6 +10,7 @@ use Rattle.cbor_core.specs.Shapes.{null, is_null, of_length, six_spots}
 use Rattle.cbor_core.specs.Spots.{Spot, spot_item, spot_raw, bytes_in, text_in}
 use Rattle.cbor_core.specs.Whole.{seen_at, Shows}
 use Rattle.hash_hmac.specs.declared.hash.Hash.{Hash}
+use Rattle.hash_hmac.specs.Value.{IsConsistent}
 use Rattle.key_codec.specs.declared.key.PublicKey.{PublicKey}
 use Rattle.key_codec.specs.Fault.{ok_of}
 use Rattle.key_codec.specs.Hash.{hash_in, item_of_hash}
@@ -89,6 +90,14 @@ item_of_maybe_hash (Some hash) = item_of_hash hash
 
 abbrev pub item_of_header : List ℕ → List (List RvInstr) → List ℕ → PublicKey → Option Hash → Item
 item_of_header guid rv info key chain_hash = items.Array (items.Uint 101 ∷ items.Bytes guid ∷ item_of_rv rv ∷ items.Text info ∷ item_of_key key ∷ item_of_maybe_hash chain_hash ∷ [])
+
+-- a hash of the form, or none
+abbrev pub IsMaybeHash : Option Hash → Type 0
+IsMaybeHash hash = IfSome hash IsConsistent
+
+-- with room for the longest
+abbrev pub HasRoom : Option Hash → Type 0
+HasRoom hash = IfSome hash (λ h. length h.bytes ≡ 48)
 
 -- the header with these parts, in the deterministic encoding
 abbrev pub header_with : List ℕ → List (List RvInstr) → List ℕ → PublicKey → Option Hash → Header

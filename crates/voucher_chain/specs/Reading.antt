@@ -1,5 +1,5 @@
 -- Which voucher bytes say, or why they say none.
-use Rattle.std.specs.Prelude.{ℕ, ◌≤◌, List, length, nat_le, Result, Ok, Err, if◌then◌else◌}
+use Rattle.std.specs.Prelude.{ℕ, ◌≤◌, ◌<◌, ◌^◌, List, length, get_or, nat_le, Result, Ok, Err, if◌then◌else◌}
 use Rattle.cbor_core.specs.Whole.{seen_at, Shows}
 use Rattle.voucher_chain.specs.declared.fault.ChainFault.{ChainFault}
 use Rattle.voucher_chain.specs.declared.fault.ChainFault.TheVariants as fault
@@ -18,3 +18,8 @@ voucher_at bytes = bounded (seen_at voucher_seen voucher_place bytes)
 pub record IsVoucher (bytes : List ℕ) (voucher : Voucher) : Type 0 where
   pub shown : Shows voucher_seen bytes voucher
   pub few : length voucher.entries ≤ 255
+
+-- bytes in memory: fewer than 2 ^ 64, each below 256
+pub record IsInMemory (bytes : List ℕ) : Type 0 where
+  pub small : length bytes < 2 ^ 64
+  pub fits : (i : ℕ) → get_or bytes i 0 < 256

@@ -1,6 +1,7 @@
 -- RendezvousInfo (FIDO Device Onboard 1.1, section 3.7): an array of directives, each an array of instructions; an
 -- instruction is an array of its variable, and of the bytes of its value where it has one.
-use Rattle.std.specs.Prelude.{ℕ, List, [], ◌∷◌, map, Bool, Option, Some, None, if◌then◌else◌, is_some}
+use Rattle.std.specs.List.{AllByRecursion}
+use Rattle.std.specs.Prelude.{ℕ, ◌<◌, ◌^◌, List, [], ◌∷◌, map, Bool, Option, Some, None, if◌then◌else◌, is_some}
 use Rattle.cbor_core.specs.declared.item.Item.{Item, out-Item}
 use Rattle.cbor_core.specs.declared.item.Item.TheOpen.{Item-F}
 use Rattle.cbor_core.specs.declared.item.Item.TheVariants as items
@@ -73,6 +74,10 @@ item_of_instr i = items.Array (items.Uint i.variable ∷ value_items i.value)
 
 abbrev pub item_of_directive : List RvInstr → Item
 item_of_directive is = items.Array (map item_of_instr is)
+
+-- numbers of variables have 64 bits
+abbrev pub AreNumbers : List RvInstr → Type 0
+AreNumbers is = AllByRecursion (λ i. i.variable < 2 ^ 64) is
 
 -- the one item that it is written as
 abbrev pub item_of_rv : List (List RvInstr) → Item

@@ -1,6 +1,6 @@
 ghost use Rattle.std.specs.Prelude.{◌≡◌, ◌≤◌, ◌++◌, ℕ, List, length, flat_map, Option, Ok, IfOk};
 ghost use Rattle.key_codec.specs.declared.key.PublicKey.{PublicKey};
-ghost use Rattle.voucher_chain.specs.Chain.{Chain, checked, certificates_break, entry_break, first_break, front, hash_break, last_key, links_break, signature_break, signature_told};
+ghost use Rattle.voucher_chain.specs.Chain.{Chain, Follows, checked, certificates_break, entry_break, first_break, front, hash_break, last_key, links_break, signature_break, signature_told};
 ghost use Rattle.voucher_chain.specs.Fault.{Answers, or_else};
 
 use crate::entry::Entry;
@@ -27,8 +27,39 @@ pub fn owner_key(voucher: &Voucher) -> &PublicKey
 /// Whether an entry goes on from what stands before it, given as two texts in a row, and from the owner before. The
 /// refusals come in this order: `BadPrevHash`, `BadInfoHash`, `NoAlgorithm`, `BadSignature`; a hash of a kind that is none
 /// of a hash's is `NoAlgorithm` in that hash's place. `NoMemory` may come at any place.
-#[tactic(auto, unfolding(crate::specs::Chain::entry_break))]
 pub fn check_entry<S: Suite>(
+    alloc: Global,
+    suite: &mut S,
+    index: u8,
+    signer: &PublicKey,
+    prev_first: &[u8],
+    prev_second: &[u8],
+    header: &Header,
+    entry: &Entry,
+) -> Result<(), ChainFault>
+    // Ok says that the entry goes on from them.
+    ensures found { IfOk result (λ _. Follows S.Verifier.verifies header.now (prev_first.now ++ prev_second.now) signer.now entry.now) }
+    // An entry that does is Ok, unless memory runs out.
+    ensures only { Follows S.Verifier.verifies header.now (prev_first.now ++ prev_second.now) signer.now entry.now → Answers (Ok tt) result }
+    // The first clause that does not hold.
+    ensures exact { Answers (checked (entry_break S.Verifier.verifies header.now index (prev_first.now ++ prev_second.now) signer.now entry.now)) result }
+    ensures held { S.Holder.held suite.new ≡ S.Holder.held suite.old }
+    ensures faults { S.Holder.faults suite.new ≡ S.Holder.faults suite.old }
+{
+    check_link(
+        alloc,
+        suite,
+        index,
+        signer,
+        prev_first,
+        prev_second,
+        header,
+        entry,
+    )
+}
+
+#[tactic(auto, unfolding(crate::specs::Chain::entry_break))]
+fn check_link<S: Suite>(
     alloc: Global,
     suite: &mut S,
     index: u8,
@@ -191,7 +222,7 @@ fn check_entries<S: Suite>(
     let mut second = voucher.hmac_raw.as_list();
     let entries = voucher.entries.as_list();
     for entry in entries {
-        match check_entry(
+        match check_link(
             alloc,
             suite,
             index,

@@ -71,6 +71,8 @@ pub fn read_entry(alloc: Global, bytes: &[u8]) -> Result<Entry, ChainFault>
     ensures only { (entry : Entry) → IsEntry bytes.now entry → Reads (Ok entry) result }
     // Where the first fault stands.
     ensures exact { Reads (entry_at bytes.now) result }
+    // It keeps the bytes that were read.
+    ensures raw { IfOk result (λ entry. entry.raw ≡ bytes.now) }
 {
     read_whole(alloc, bytes)
 }

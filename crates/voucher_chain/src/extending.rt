@@ -3,13 +3,13 @@ ghost use Rattle.cbor_core.specs.Deterministic.{det};
 ghost use Rattle.key_codec.specs.declared.key.PublicKey.{PublicKey};
 ghost use Rattle.key_codec.specs.Key.{item_of_key};
 ghost use Rattle.voucher_chain.specs.Chain.{Chain, last_key};
-ghost use Rattle.voucher_chain.specs.Extended.{Counts, IsExtended, Refuses, RefusesNext};
+ghost use Rattle.voucher_chain.specs.Extended.{AreSized, Counts, IsExtended, IsReadAgain, IsReadBack, Refuses, RefusesNext};
 
 use crate::chain::owner_key;
 use crate::entry::{Entry, payload_item_of};
 use crate::fault::ChainFault;
 use crate::strengths::{hash_kind_of, strength};
-use crate::voucher::{Entries, Voucher, voucher_raw};
+use crate::voucher::{Entries, Voucher, are_bytes, voucher_raw};
 use cbor_core::{Blob, NoMemory, Pairs, write_det};
 use cose_envelopes::{CoseFault, Sign1, sign, write_sign1};
 use hash_hmac::{Hash, hash_of};
@@ -29,11 +29,13 @@ pub fn extend<S: Suite>(
 ) -> Result<Voucher, ChainFault>
     requires held { S.Holder.held suite.old (det (item_of_key (last_key voucher.now.header.key voucher.now.entries))) ≡ true }
     requires few { length voucher.now.entries ≤ 255 }
-    // All that the voucher had, byte for byte, and an entry that goes on from it to the next owner.
+    // All that the voucher had, its header, HMAC and entries byte for byte, and an entry that goes on from it to the next owner.
     ensures longer { IfOk result (IsExtended S.Verifier.verifies voucher.now next.now) }
     // A chain that holds is kept, with the next owner's key as its last.
     ensures keeps { IfOk result (λ longer. (keys : List PublicKey) → Chain S.Verifier.verifies voucher.now keys → Chain S.Verifier.verifies longer (keys ++ next.now ∷ [])) }
     ensures owner { IfOk result (λ longer. last_key longer.header.key longer.entries ≡ next.now) }
+    // Where the voucher was read, and the next owner's key is of the form, it is read from its bytes as it stands.
+    ensures back { IfOk result (IsReadBack voucher.now next.now) }
     // Which refusal it is.
     ensures refused { Refuses (S.Signer.algorithm (det (item_of_key (last_key voucher.now.header.key voucher.now.entries)))) (length voucher.now.entries) result }
     ensures held { S.Holder.held suite.new ≡ S.Holder.held suite.old }
@@ -51,6 +53,7 @@ fn lengthen<S: Suite>(
     requires held { S.Holder.held suite.old (det (item_of_key (last_key voucher.now.header.key voucher.now.entries))) ≡ true }
     requires few { length voucher.now.entries ≤ 255 }
     ensures longer { IfOk result (IsExtended S.Verifier.verifies voucher.now next.now) }
+    ensures sizes { IfOk result (λ longer. AreSized voucher.now longer) }
     ensures refused { Refuses (S.Signer.algorithm (det (item_of_key (last_key voucher.now.header.key voucher.now.entries)))) (length voucher.now.entries) result }
     ensures held { S.Holder.held suite.new ≡ S.Holder.held suite.old }
     ensures faults { Counts (S.Holder.faults suite.old) (S.Holder.faults suite.new) result }
@@ -60,7 +63,10 @@ fn lengthen<S: Suite>(
         return Err(ChainFault::TooLong);
     }
     let entry = next_entry(alloc, suite, voucher, count as u8, next)?;
-    Ok(with_entry(alloc, voucher, entry)?)
+    let longer = with_entry(alloc, voucher, entry)?;
+    are_bytes(voucher.raw.as_list());
+    are_bytes(longer.raw.as_list());
+    Ok(longer)
 }
 
 ghost use Rattle.voucher_chain.specs.Extended.{IsNext};
@@ -75,6 +81,8 @@ fn next_entry<S: Suite>(
 ) -> Result<Entry, ChainFault>
     requires held { S.Holder.held suite.old (det (item_of_key (last_key voucher.now.header.key voucher.now.entries))) ≡ true }
     ensures next { IfOk result (IsNext S.Verifier.verifies voucher.now next.now) }
+    // It is read from its bytes as it stands.
+    ensures back { IfOk result (IsReadAgain next.now) }
     ensures refused { RefusesNext (S.Signer.algorithm (det (item_of_key (last_key voucher.now.header.key voucher.now.entries)))) index result }
     ensures held { S.Holder.held suite.new ≡ S.Holder.held suite.old }
     ensures faults { Counts (S.Holder.faults suite.old) (S.Holder.faults suite.new) result }
@@ -90,8 +98,10 @@ fn next_entry<S: Suite>(
     let signer = key_bytes(alloc, owner_key(voucher))?;
     let payload = payload_bytes(alloc, &prev, &hdr, next)?;
     let sign = sign_payload(alloc, suite, index, signer.as_list(), payload)?;
+    let raw = write_sign1(alloc, &sign)?;
+    are_bytes(raw.as_list());
     Ok(Entry {
-        raw: write_sign1(alloc, &sign)?,
+        raw,
         prev,
         hdr,
         extra: None,
@@ -103,6 +113,7 @@ fn next_entry<S: Suite>(
 ghost use Rattle.voucher_chain.specs.Chain.{front, last_bytes};
 ghost use Rattle.voucher_chain.specs.Entry.{item_of_payload};
 ghost use Rattle.voucher_chain.specs.Extended.{hash_kind};
+ghost use Rattle.hash_hmac.specs.Value.{IsConsistent};
 ghost use Rattle.voucher_chain.specs.Match.{IsHashOf};
 
 /// What stands before the next entry, as two texts in a row.
@@ -119,6 +130,7 @@ fn texts_before(voucher: &Voucher) -> (&[u8], &[u8])
 fn hash_by(bits: u16, first: &[u8], second: &[u8]) -> Hash
     ensures kind { result.kind ≡ hash_kind bits }
     ensures hash { IsHashOf result (first.now ++ second.now) }
+    ensures consistent { IsConsistent result }
 {
     match hash_of(hash_kind_of(bits), first, second) {
         Some(hash) => hash,
@@ -134,6 +146,7 @@ fn payload_bytes(alloc: Global, prev: &Hash, hdr: &Hash, next: &PublicKey) -> Re
 }
 
 ghost use Rattle.std.specs.Prelude.{Some};
+ghost use Rattle.cose_envelopes.specs.Envelope.{algorithm_in, protected_of};
 ghost use Rattle.cose_envelopes.specs.Text.{sign1_structure};
 
 fn sign_payload<S: Suite>(
@@ -145,6 +158,7 @@ fn sign_payload<S: Suite>(
 ) -> Result<Sign1, ChainFault>
     requires { S.Holder.held suite.old key.now ≡ true }
     ensures parts { IfOk result (λ sign. (sign.unprotected ≡ []) × (sign.payload ≡ payload)) }
+    ensures protected { IfOk result (λ sign. (sign.protected ≡ protected_of sign.alg) × (algorithm_in sign.protected ≡ Some sign.alg)) }
     ensures signed { IfOk result (λ sign. S.Verifier.verifies key.now sign.alg (sign1_structure sign.protected sign.payload) sign.sig ≡ Some true) }
     ensures refused { RefusesNext (S.Signer.algorithm key.now) index result }
     ensures held { S.Holder.held suite.new ≡ S.Holder.held suite.old }

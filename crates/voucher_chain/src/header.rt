@@ -10,6 +10,7 @@ ghost use Rattle.key_codec.specs.Hash.{hash_in};
 
 use crate::fault::{ChainFault, shape_fault};
 use crate::rv_info::{RvInfo, find_rv_fault, read_rv, rv_item};
+use crate::voucher::are_bytes;
 use cbor_core::{Blob, Item, Items, NoMemory, Part, Text, exactly, write_det};
 use hash_hmac::Hash;
 use key_codec::{
@@ -60,6 +61,8 @@ pub fn read_header(alloc: Global, bytes: &[u8]) -> Result<Header, ChainFault>
     ensures only { (header : Header) → IsHeader bytes.now header → Reads (Ok header) result }
     // Where the first fault stands.
     ensures exact { Reads (header_at bytes.now) result }
+    // It keeps the bytes that were read.
+    ensures raw { IfOk result (λ header. header.raw ≡ bytes.now) }
 {
     read_whole(alloc, bytes)
 }
@@ -232,6 +235,9 @@ fn find_later_fault(
     }
 }
 
+ghost use Rattle.std.specs.List.{AllByRecursion};
+ghost use Rattle.voucher_chain.specs.RvInfo.{AreNumbers};
+
 /// The item that a header with these parts is written as.
 pub fn header_item(
     alloc: Global,
@@ -241,7 +247,9 @@ pub fn header_item(
     key: &PublicKey,
     chain_hash: &Option<Hash>,
 ) -> Result<Item, NoMemory>
-    ensures { IfOk result (λ item. item ≡ item_of_header guid.now rv.now info.now key.now chain_hash.now) }
+    ensures item { IfOk result (λ item. item ≡ item_of_header guid.now rv.now info.now key.now chain_hash.now) }
+    // The numbers of the variables have 64 bits.
+    ensures numbers { IfOk result (λ item. AllByRecursion AreNumbers rv.now) }
 {
     let mut parts = Items::new(alloc);
     parts.push(Item::Uint(101))?;
@@ -262,6 +270,11 @@ fn maybe_hash_item(alloc: Global, hash: &Option<Hash>) -> Result<Item, NoMemory>
     }
 }
 
+ghost use Rattle.std.specs.Str.{is_utf8};
+ghost use Rattle.key_codec.specs.Key.{IsKey};
+ghost use Rattle.std.specs.Prelude.{length, true};
+ghost use Rattle.voucher_chain.specs.Header.{IsMaybeHash, HasRoom};
+
 /// The header that replaces another one when a device gets a new owner: the same DeviceInfo and hash of certificates,
 /// with another GUID, rendezvous information and key, in the deterministic encoding.
 pub fn replacement(
@@ -271,11 +284,17 @@ pub fn replacement(
     rv: &RvInfo,
     key: &PublicKey,
 ) -> Result<Header, NoMemory>
-    ensures { IfOk result (λ new. new ≡ header_with guid.now rv.now header.now.info key.now header.now.chain_hash) }
+    ensures new { IfOk result (λ new. new ≡ header_with guid.now rv.now header.now.info key.now header.now.chain_hash) }
+    // Where the key and the hash are of the form, it is read from its bytes as it stands.
+    ensures back { IsKey key.now → IsMaybeHash header.now.chain_hash → IfOk result (λ new. IsHeader new.raw new) }
 {
     let item = header_item(alloc, guid, rv, &header.info, key, &header.chain_hash)?;
+    let raw = write_det(alloc, &item)?;
+    are_bytes(raw.as_list());
+    has_room(&header.chain_hash);
+    is_text(&header.info);
     Ok(Header {
-        raw: write_det(alloc, &item)?,
+        raw,
         guid: *guid,
         rv: rv.copy(alloc)?,
         info: header.info.copy()?,
@@ -284,3 +303,24 @@ pub fn replacement(
         chain_hash: header.chain_hash,
     })
 }
+
+/// What holds of any text.
+fn is_text(text: &Text)
+    ensures { is_utf8 text.now ≡ true }
+{
+    let _all = text.as_list();
+}
+
+/// What holds of any hash.
+fn has_room(hash: &Option<Hash>)
+    ensures { HasRoom hash.now }
+{
+    match hash {
+        Some(hash) => has_bytes(*hash),
+        None => {}
+    }
+}
+
+fn has_bytes(hash: Hash)
+    ensures { length hash.bytes ≡ 48 }
+{}

@@ -319,9 +319,16 @@ fn is_bytes(part: &Part) -> bool
 
 // ---- writing
 
+ghost use Rattle.std.specs.Prelude.{◌<◌, ◌^◌};
+ghost use Rattle.std.specs.List.{AllByRecursion};
+ghost use Rattle.voucher_chain.specs.RvInfo.{AreNumbers};
+
 /// The item that rendezvous information is written as.
+#[tactic(auto, using(crate::proofs::InMemory::all_next))]
 pub fn rv_item(alloc: Global, rv: &RvInfo) -> Result<Item, NoMemory>
-    ensures { IfOk result (λ item. item ≡ item_of_rv rv.now) }
+    ensures item { IfOk result (λ item. item ≡ item_of_rv rv.now) }
+    // The numbers of its variables have 64 bits.
+    ensures numbers { IfOk result (λ item. AllByRecursion AreNumbers rv.now) }
 {
     let mut items = Items::new(alloc);
     let directives = rv.as_list();
@@ -331,8 +338,10 @@ pub fn rv_item(alloc: Global, rv: &RvInfo) -> Result<Item, NoMemory>
     Ok(Item::Array(items))
 }
 
+#[tactic(auto, using(crate::proofs::InMemory::all_next))]
 fn directive_item(alloc: Global, directive: &RvDirective) -> Result<Item, NoMemory>
-    ensures { IfOk result (λ item. item ≡ item_of_directive directive.now) }
+    ensures item { IfOk result (λ item. item ≡ item_of_directive directive.now) }
+    ensures numbers { IfOk result (λ item. AreNumbers directive.now) }
 {
     let mut items = Items::new(alloc);
     let instructions = directive.as_list();
@@ -343,8 +352,10 @@ fn directive_item(alloc: Global, directive: &RvDirective) -> Result<Item, NoMemo
 }
 
 fn instr_item(alloc: Global, instruction: &RvInstr) -> Result<Item, NoMemory>
-    ensures { IfOk result (λ item. item ≡ item_of_instr instruction.now) }
+    ensures item { IfOk result (λ item. item ≡ item_of_instr instruction.now) }
+    ensures number { instruction.now.variable < 2 ^ 64 }
 {
+    is_number(instruction.variable);
     let mut items = Items::new(alloc);
     items.push(Item::Uint(instruction.variable))?;
     if let Some(value) = &instruction.value {
@@ -352,3 +363,7 @@ fn instr_item(alloc: Global, instruction: &RvInstr) -> Result<Item, NoMemory>
     }
     Ok(Item::Array(items))
 }
+
+fn is_number(n: u64)
+    ensures { n < 2 ^ 64 }
+{}

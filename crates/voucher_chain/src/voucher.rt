@@ -75,6 +75,8 @@ pub fn read_voucher(alloc: Global, bytes: &[u8]) -> Result<Voucher, ChainFault>
     ensures only { (voucher : Voucher) → IsVoucher bytes.now voucher → Answers (Ok voucher) result }
     // Which refusal it is, and where the first fault stands.
     ensures exact { Answers (voucher_at bytes.now) result }
+    // It keeps the bytes that were read.
+    ensures raw { IfOk result (λ voucher. voucher.raw ≡ bytes.now) }
 {
     read_bounded(alloc, bytes)
 }
@@ -339,11 +341,15 @@ pub fn write_voucher(
     chain: Option<X5Chain>,
 ) -> Result<Voucher, NoMemory>
     requires { is_mac_kind hmac.kind ≡ true }
-    ensures { IfOk result (λ voucher. voucher ≡ voucher_with header hmac (det (item_of_hash hmac)) chain []) }
+    ensures voucher { IfOk result (λ voucher. voucher ≡ voucher_with header hmac (det (item_of_hash hmac)) chain []) }
+    // Where the header is one that its bytes spell, and the HMAC is of the form, it is read from its bytes as it stands.
+    ensures back { IsHeader header.raw header → IsConsistent hmac → IfOk result (λ voucher. IsVoucher voucher.raw voucher) }
 {
     let hmac_raw = hash_bytes(alloc, &hmac)?;
     let entries = Vec::new(alloc);
     let raw = voucher_raw(alloc, &header, hmac_raw.as_list(), &chain, &entries)?;
+    are_bytes(raw.as_list());
+    are_some(&chain);
     Ok(Voucher {
         raw,
         header,
@@ -354,7 +360,7 @@ pub fn write_voucher(
     })
 }
 
-ghost use Rattle.std.specs.Prelude.{true, OnOk, ◌++◌};
+ghost use Rattle.std.specs.Prelude.{◌≢◌, Some, true, OnOk, ◌++◌};
 ghost use Rattle.std.specs.Prelude.{flat_map};
 ghost use Rattle.voucher_chain.specs.declared.entry.Entry.{Entry};
 ghost use Rattle.cbor_core.specs.Deterministic.{det};
@@ -367,6 +373,9 @@ fn hash_bytes(alloc: Global, hash: &HMac) -> Result<Blob, NoMemory>
     write_det(alloc, &item)
 }
 
+ghost use Rattle.voucher_chain.specs.Reading.{IsInMemory};
+ghost use Rattle.voucher_chain.specs.Header.{IsHeader};
+ghost use Rattle.hash_hmac.specs.Value.{IsConsistent};
 ghost use Rattle.voucher_chain.specs.Voucher.{item_of_certificates, voucher_bytes};
 
 /// The bytes of a voucher, in which its HMAC and its entries stand as they were received.
@@ -391,6 +400,24 @@ pub(crate) fn voucher_raw(
     put_entries(&mut out, entries)?;
     Ok(Blob::new(out))
 }
+
+/// What holds of any certificates: there is one.
+#[tactic(auto, using(crate::proofs::NewBack::some_not))]
+fn are_some(chain: &Option<X5Chain>)
+    ensures { chain.now ≢ Some [] }
+{
+    match chain {
+        Some(chain) => {
+            let _all = chain.as_list();
+        }
+        None => {}
+    }
+}
+
+/// What holds of any bytes in memory.
+pub(crate) fn are_bytes(bytes: &[u8])
+    ensures { IsInMemory bytes.now }
+{}
 
 fn certificates_bytes(alloc: Global, chain: &Option<X5Chain>) -> Result<Blob, NoMemory>
     ensures { IfOk result (λ bytes. bytes ≡ det (item_of_certificates chain.now)) }

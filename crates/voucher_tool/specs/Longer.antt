@@ -2,25 +2,28 @@
 use Rattle.std.specs.Prelude.{◌≡◌, ℕ, ℤ, List, length, Bool, true, false, Option, Result, Ok, Err}
 use Rattle.cbor_core.specs.Deterministic.{det}
 use Rattle.key_codec.specs.declared.key.PublicKey.{PublicKey}
-use Rattle.key_codec.specs.Key.{item_of_key}
+use Rattle.key_codec.specs.Key.{item_of_key, IsKey}
 use Rattle.voucher_chain.specs.declared.fault.ChainFault.{ChainFault}
 use Rattle.voucher_chain.specs.declared.fault.ChainFault.TheVariants as fault
 use Rattle.voucher_chain.specs.declared.voucher.Voucher.{Voucher}
 use Rattle.voucher_chain.specs.Chain.{Verifies, last_key}
-use Rattle.voucher_chain.specs.Extended.{IsExtended, Refuses}
+use Rattle.voucher_chain.specs.Extended.{IsExtended, IsReadBack, Refuses}
 use Rattle.voucher_chain.specs.Reading.{IsVoucher, voucher_at}
 
--- the bytes of a voucher that has one more entry
+-- the bytes of a voucher that has one more entry; they are read as it where the next key is of the form and the voucher was
+-- read
 pub record IsRawExtended (verifies : Verifies) (v : Voucher) (next : PublicKey) (made : List ℕ) : Type 0 where
   pub longer : Voucher
   pub extended : IsExtended verifies v next longer
   pub raw : made ≡ longer.raw
+  pub back : IsReadBack v next longer
 
--- than the voucher that the bytes spell
+-- than the voucher that the bytes spell; they are read as the longer voucher, where the next owner's key is of the form
 pub record IsLonger (verifies : Verifies) (bytes : List ℕ) (next : PublicKey) (made : List ℕ) : Type 0 where
   pub voucher : Voucher
   pub read : IsVoucher bytes voucher
   pub extended : IsRawExtended verifies voucher next made
+  pub again : IsKey next → IsVoucher made extended.longer
 
 -- by which the suite knows the last owner's key
 abbrev pub owner_bytes : Voucher → List ℕ

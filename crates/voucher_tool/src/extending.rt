@@ -11,13 +11,14 @@ use voucher_chain::{ChainFault, Voucher, extend, owner_key, read_voucher};
 /// The bytes of the voucher with one more entry, made of the bytes of one. The refusals come in this order: those of
 /// `read_voucher`; `BadSignature` with the number of entries, exactly where the suite does not hold the last owner's key;
 /// those of `extend`. `NoMemory` may come at any place.
+#[tactic(auto, using(crate::proofs::Again::longer_file))]
 pub fn extend_file<S: Suite>(
     alloc: Global,
     suite: &mut S,
     bytes: &[u8],
     next: &PublicKey,
 ) -> Result<Blob, ChainFault>
-    // All that the voucher had, and an entry that goes on from it to the next owner.
+    // All that the voucher had, and an entry that goes on from it to the next owner; it is read back.
     ensures longer { IfOk result (IsLonger S.Verifier.verifies bytes.now next.now) }
     // Which refusal it is.
     ensures refused { RefusesFile (S.Holder.held suite.old) S.Signer.algorithm bytes.now result }

@@ -26,8 +26,8 @@ loop-entry-preserved g c =
       breaks = entry_holds g.S.Verifier.verifies v.header c.as_list-entries.result.now c.loop-entry.entry-index before key whole c.loop-entry.invariant.breaks e (c.as_list-first-in-loop-entry.result.now ++ []) c.loop-entry-test.true c.entry-item.is
           (subst (λ n. checked (entry_break g.S.Verifier.verifies v.header n before key e) ≡ Ok tt) c.loop-entry.invariant.index c.in-Ok.ensures.answer)
           (append-nil c.as_list-first-in-loop-entry.result.now ∙ c.as_list-first-in-loop-entry.ensures);
-      held = c.check_entry.ensures.held ∙ c.loop-entry.invariant.held;
-      faults = c.check_entry.ensures.faults ∙ c.loop-entry.invariant.faults;
+      held = c.check_link.ensures.held ∙ c.loop-entry.invariant.held;
+      faults = c.check_link.ensures.faults ∙ c.loop-entry.invariant.faults;
     }
 
 pub returns-clause-answer : goal.returns-clause-answer
