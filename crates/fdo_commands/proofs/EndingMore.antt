@@ -37,7 +37,7 @@ module _ {S : Type 0} (Steps : S → Packet → Answer → S → Type 0) (GivesU
     )
 
     -- all is answered, but an object failed, and the last line says so
-    pub random_failed : (written'' : Option (List ℕ)) (faults'' : ℕ) → AnswersAll Steps GivesUp s packets t written written' (Ok true) → faults' ≡ faults → EndsWith written' faults' written'' faults'' (codes "fault random\n") → AnswersBytes Steps GivesUp s t bytes written faults written'' faults'' status.Random
+    pub random_failed : (written'' : Option (List ℕ)) (faults'' : ℕ) → AnswersAll Steps GivesUp s packets t written written' (Ok true) → faults' ≡ faults → EndsWith written' faults' written'' faults'' (codes "fault random\n") → AnswersBytes Steps GivesUp s t bytes written faults written'' faults'' status.Outside
     random_failed written'' faults'' (all, run, wrote, fault) same ends = (
       packets,
       all,

@@ -1,3 +1,4 @@
+pub mod CommandWords
 pub mod HexWords
 pub mod LineParts
 pub mod LineFeeds
@@ -7,3 +8,5 @@ pub mod EndingMore
 pub mod RvCounts
 pub mod OneInput
 pub mod TextsMore
+pub mod ExtendMore
+pub mod RanMore

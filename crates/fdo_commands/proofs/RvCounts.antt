@@ -1,5 +1,5 @@
 -- The count of failed draws over a run of the rendezvous server.
-use Rattle.std.proofs.Common.{◌≡◌, ℕ, ◌≤◌, Bool, true, false, ◌||◌, List, [], ◌∷◌, Result, Ok, Err, refl, sym, ap, ◌∙◌, subst, arith}
+use Rattle.std.proofs.Common.{◌≡◌, ◌≢◌, ℕ, ◌≤◌, Bool, true, false, ◌||◌, List, [], ◌∷◌, Result, Ok, Err, refl, sym, ap, ◌∙◌, subst, arith}
 use Rattle.std.specs.Prelude.{◌==◌, if◌then◌else◌}
 use Rattle.fdo_ports.specs.Count.{Rises}
 use Rattle.fdo_ports.specs.Draw.{Drawn, Draws}
@@ -111,7 +111,10 @@ module _ (s t : RvState) (before after : Streams) (ending : Status) (ends : Ends
       let done = at status.Done is in
       (subst (λ b. CountsIf b s.random.faults t.random.faults) done.3.3 (run_counts s done.3.0 done.3.1 t done.3.2.1), done.2, done.3.4.1)
 
-  pub ends_random : ending ≡ status.Random → Rises s.random.faults t.random.faults
+  pub ends_random : ending ≡ status.Outside → Rises s.random.faults t.random.faults
   ends_random is =
-      let failed = at status.Random is in
+      let failed = at status.Outside is in
       subst (λ b. CountsIf b s.random.faults t.random.faults) failed.3.3 (run_counts s failed.3.0 failed.3.1 t failed.3.2.1)
+
+  pub ends_no_words : ending ≢ status.Words
+  ends_no_words is = (at status.Words is).3

@@ -11,46 +11,46 @@ use Rattle.fdo_commands.specs.declared.status.Status.{Status}
 use Rattle.fdo_commands.specs.declared.status.Status.TheVariants as status
 use Rattle.fdo_commands.specs.declared.texts.Told.{Told}
 
-module _ (tell : List ℕ → Told) (before after : Streams) where
+module _ (Tells : List ℕ → Told → Type 0) (before after : Streams) where
   -- the input is read to its end
-  whole : (bytes : List ℕ) → TookAll before.left after.left bytes → after.read_faults ≡ before.read_faults → (ending : Status) → WritesTold (tell bytes) before.written before.write_faults after.written after.write_faults ending → TextEnds tell before after ending
-  whole bytes took same status.Done writes = (bytes, took, same, writes)
-  whole bytes took same status.Words writes = absurd writes
-  whole bytes took same status.Input writes = (bytes, took, same, writes)
-  whole bytes took same status.Read writes = absurd writes
-  whole bytes took same status.Write writes = (bytes, took, same, writes)
-  whole bytes took same status.NoMemory writes = (bytes, took.took, same, writes.0, writes.1)
-  whole bytes took same status.Limit writes = absurd writes
-  whole bytes took same status.Refused writes = (bytes, took, same, writes)
-  whole bytes took same status.Random writes = absurd writes
+  whole : (bytes : List ℕ) → TookAll before.left after.left bytes → after.read_faults ≡ before.read_faults → (what : Told) → Tells bytes what → (ending : Status) → WritesTold what before.written before.write_faults after.written after.write_faults ending → TextEnds Tells before after ending
+  whole bytes took same what is status.Done writes = (bytes, took, same, what, is, writes)
+  whole bytes took same what is status.Words writes = absurd writes
+  whole bytes took same what is status.Input writes = (bytes, took, same, what, is, writes)
+  whole bytes took same what is status.Read writes = absurd writes
+  whole bytes took same what is status.Write writes = (bytes, took, same, what, is, writes)
+  whole bytes took same what is status.NoMemory writes = (bytes, took.took, same, writes.0, writes.1)
+  whole bytes took same what is status.Limit writes = absurd writes
+  whole bytes took same what is status.Refused writes = (bytes, took, same, what, is, writes)
+  whole bytes took same what is status.Outside writes = absurd writes
 
-  pub found_ends : {E : Type 0} (bytes : List ℕ) → TookAll before.left after.left bytes → after.read_faults ≡ before.read_faults → (found : Result Told E) → IfOk found (λ what. what ≡ tell bytes) → (ending : Status) → WritesFound found before.written before.write_faults after.written after.write_faults ending → TextEnds tell before after ending
+  pub found_ends : {E : Type 0} (bytes : List ℕ) → TookAll before.left after.left bytes → after.read_faults ≡ before.read_faults → (found : Result Told E) → IfOk found (Tells bytes) → (ending : Status) → WritesFound found before.written before.write_faults after.written after.write_faults ending → TextEnds Tells before after ending
   found_ends bytes took same (Ok what) is ending writes =
-      whole bytes took same ending (subst (λ w. WritesTold w before.written before.write_faults after.written after.write_faults ending) is writes)
+      whole bytes took same what is ending writes
   found_ends bytes took same (Err _) is ending writes =
-      subst (TextEnds tell before after) (sym writes.0) (bytes, took.took, same, writes.1, writes.2)
+      subst (TextEnds Tells before after) (sym writes.0) (bytes, took.took, same, writes.1, writes.2)
 
   -- it is not
-  pub unread_ends : (fault : InputFault) → ReadsInput before.left after.left (Err fault) → InputCounts before.read_faults after.read_faults (Err fault) → (ending : Status) → InputFails fault before.written before.write_faults after.written after.write_faults ending → TextEnds tell before after ending
-  unread_ends faults.Read read counts ending fails = subst (TextEnds tell before after) (sym fails.0) (read.0, read.1, read.2, counts, fails.1)
-  unread_ends faults.Limit read counts ending fails = subst (TextEnds tell before after) (sym fails.0) (read.0, read.1, read.2, counts, fails.1)
-  unread_ends faults.NoMemory read counts ending fails = subst (TextEnds tell before after) (sym fails.0) (read.0, read.1, counts, fails.1, fails.2)
+  pub unread_ends : (fault : InputFault) → ReadsInput before.left after.left (Err fault) → InputCounts before.read_faults after.read_faults (Err fault) → (ending : Status) → InputFails fault before.written before.write_faults after.written after.write_faults ending → TextEnds Tells before after ending
+  unread_ends faults.Read read counts ending fails = subst (TextEnds Tells before after) (sym fails.0) (read.0, read.1, read.2, counts, fails.1)
+  unread_ends faults.Limit read counts ending fails = subst (TextEnds Tells before after) (sym fails.0) (read.0, read.1, read.2, counts, fails.1)
+  unread_ends faults.NoMemory read counts ending fails = subst (TextEnds Tells before after) (sym fails.0) (read.0, read.1, counts, fails.1, fails.2)
 
-  module _ (ending : Status) (ends : TextEnds tell before after ending) where
-    at : (e : Status) → ending ≡ e → TextEnds tell before after e
-    at e is = subst (TextEnds tell before after) is ends
+  module _ (ending : Status) (ends : TextEnds Tells before after ending) where
+    at : (e : Status) → ending ≡ e → TextEnds Tells before after e
+    at e is = subst (TextEnds Tells before after) is ends
 
     pub text_done : ending ≡ status.Done → (after.read_faults ≡ before.read_faults) × (after.write_faults ≡ before.write_faults)
-    text_done is = let done = at status.Done is in (done.2, done.3.2.1)
+    text_done is = let done = at status.Done is in (done.2, done.5.2.1)
 
     pub text_read : ending ≡ status.Read → Rises before.read_faults after.read_faults
     text_read is = (at status.Read is).3
 
     pub text_write : ending ≡ status.Write → Rises before.write_faults after.write_faults
-    text_write is = (at status.Write is).3.3
+    text_write is = (at status.Write is).5.3
 
     pub text_no_words : ending ≢ status.Words
-    text_no_words is = (at status.Words is).3
+    text_no_words is = (at status.Words is).5
 
-    pub text_no_random : ending ≢ status.Random
-    text_no_random is = (at status.Random is).3
+    pub text_no_outside : ending ≢ status.Outside
+    text_no_outside is = (at status.Outside is).5

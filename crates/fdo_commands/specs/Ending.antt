@@ -51,7 +51,7 @@ AnswersBytes Steps GivesUp s t bytes written faults written' faults' status.Done
     (packets : List Packet) × (answers : List Answer) × Answered Steps s t bytes packets answers
     × (any_fault answers ≡ false) × Wrote written faults written' faults' (answers_text answers)
 -- the same, but one failed
-AnswersBytes Steps GivesUp s t bytes written faults written' faults' status.Random =
+AnswersBytes Steps GivesUp s t bytes written faults written' faults' status.Outside =
     (packets : List Packet) × (answers : List Answer) × Answered Steps s t bytes packets answers
     × (any_fault answers ≡ true) × EndsWith (grown written (answers_text answers)) faults written' faults' (codes "fault random\n")
 -- a line is wrong, and nothing is answered

@@ -4,7 +4,10 @@ pub mod Input
 pub mod Answering
 pub mod Stream
 pub mod Ending
+pub mod Outside
 pub mod Texts
 pub mod Vouchers
+pub mod KeyWords
 pub mod Commands
+pub mod Extending
 pub mod Ran

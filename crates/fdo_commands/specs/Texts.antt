@@ -43,21 +43,21 @@ InputFails faults.Limit written faults written' faults' ending =
 InputFails faults.NoMemory written faults written' faults' ending =
     (ending ≡ status.NoMemory) × (written' ≡ written) × (faults' ≡ faults)
 
--- how the command ends: `tell` is what it tells of the bytes of its input
-abbrev pub TextEnds : (List ℕ → Told) → Streams → Streams → Status → Type 0
+-- how the command ends: `Tells` is what it may tell of the bytes of its input
+abbrev pub TextEnds : (List ℕ → Told → Type 0) → Streams → Streams → Status → Type 0
 -- the input fails
-TextEnds tell before after status.Read =
+TextEnds Tells before after status.Read =
     (bytes : List ℕ) × Took before.left after.left bytes × (length bytes ≤ most_bytes) × Rises before.read_faults after.read_faults
     × EndsWith before.written before.write_faults after.written after.write_faults (codes "fault read\n")
 -- the input has more than the most bytes
-TextEnds tell before after status.Limit =
+TextEnds Tells before after status.Limit =
     (bytes : List ℕ) × Took before.left after.left bytes × (most_bytes < length bytes) × (after.read_faults ≡ before.read_faults)
     × EndsWith before.written before.write_faults after.written after.write_faults (codes "fault limit\n")
 -- memory runs out, while the input is read or behind it
-TextEnds tell before after status.NoMemory =
+TextEnds Tells before after status.NoMemory =
     (bytes : List ℕ) × Took before.left after.left bytes × (after.read_faults ≡ before.read_faults)
     × (after.written ≡ before.written) × (after.write_faults ≡ before.write_faults)
 -- the input is read to its end
-TextEnds tell before after ending =
+TextEnds Tells before after ending =
     (bytes : List ℕ) × TookAll before.left after.left bytes × (after.read_faults ≡ before.read_faults)
-    × WritesTold (tell bytes) before.written before.write_faults after.written after.write_faults ending
+    × (what : Told) × Tells bytes what × WritesTold what before.written before.write_faults after.written after.write_faults ending

@@ -3,8 +3,10 @@
 
 mod answers;
 pub mod command;
+mod extending;
 mod fault_line;
 mod input;
+mod key_words;
 pub mod laws;
 mod line;
 mod lines;

@@ -17,6 +17,6 @@ pub enum Status {
     Limit = 8,
     /// The input is of the command's form, and refused: a voucher that does not hold, or one that is too long.
     Refused = 9,
-    /// All was done, but the source of random draws failed meanwhile.
-    Random = 11,
+    /// An object of the outside failed: the source of random draws, meanwhile, or the signer, as it took a private key.
+    Outside = 11,
 }

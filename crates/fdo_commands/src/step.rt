@@ -72,7 +72,7 @@ fn answer_bytes<H: Handler, O: Sink>(
         Ok(false) => Status::Done,
         Ok(true) => {
             end_with(output, b"fault random\n");
-            Status::Random
+            Status::Outside
         }
         Err(Stop::Write) => Status::Write,
         Err(Stop::NoMemory) => Status::NoMemory,

@@ -1,11 +1,14 @@
-ghost use Rattle.std.specs.Prelude.{◌≡◌, ◌↔◌};
+ghost use Rattle.std.specs.Prelude.{◌≡◌, ◌≢◌, ◌⊎◌, ℕ, List, true};
 ghost use Rattle.fdo_commands.specs.declared.command.Command.{Command};
 ghost use Rattle.fdo_commands.specs.declared.status.Status.TheVariants as status;
 ghost use Rattle.fdo_ports.specs.Count.{Rises};
-ghost use Rattle.fdo_commands.specs.Commands.{Names};
-ghost use Rattle.fdo_commands.specs.Ran.{Ran, RanNone, outside};
+ghost use Rattle.suite_port.specs.Answer.{Rises as SuiteRises};
+ghost use Rattle.fdo_commands.specs.Commands.{Names, Unloadable};
+ghost use Rattle.fdo_commands.specs.Outside.{outside, signing};
+ghost use Rattle.fdo_commands.specs.Ran.{Ran, RanUnnamed};
 
 use crate::command::Command;
+use crate::extending::voucher_extend;
 use crate::fault_line::end_with;
 use crate::status::Status;
 use crate::step::step;
@@ -25,41 +28,86 @@ pub fn fdo<I: Source, O: Sink, S: Suite, N: Random>(
     suite: &mut S,
     random: &mut N,
 ) -> Status
-    ensures words { (result ≡ status.Words) ↔ ((command : Command) → Names words.now command → ⊥) }
-    ensures none { result ≡ status.Words → RanNone
+    // Words that name no command have their last line, and nothing else is done.
+    ensures unnamed { ((command : Command) → Names words.now command → ⊥) → RanUnnamed
         (outside (I.Channel.left input.old) (I.Channel.read_faults input.old)
         (O.Channel.written output.old) (O.Channel.write_faults output.old)
-        (N.draws random.old) (N.faults random.old))
+        (S.Holder.held suite.old) (S.Holder.faults suite.old) (N.draws random.old) (N.faults random.old))
         (outside (I.Channel.left input.new) (I.Channel.read_faults input.new)
         (O.Channel.written output.new) (O.Channel.write_faults output.new)
-        (N.draws random.new) (N.faults random.new)) }
-    ensures ran { (command : Command) → Names words.now command → Ran S.Verifier.verifies command
+        (S.Holder.held suite.new) (S.Holder.faults suite.new) (N.draws random.new) (N.faults random.new)) result }
+    // Else the command's private key is none of the suite's.
+    ensures words { result ≡ status.Words → (command : Command) → Names words.now command → Unloadable S.Signer.loads command }
+    // What the command did.
+    ensures ran { (command : Command) → Names words.now command → Ran (signing S.Verifier.verifies S.Signer.algorithm S.Signer.loads) command
         (outside (I.Channel.left input.old) (I.Channel.read_faults input.old)
         (O.Channel.written output.old) (O.Channel.write_faults output.old)
-        (N.draws random.old) (N.faults random.old))
+        (S.Holder.held suite.old) (S.Holder.faults suite.old) (N.draws random.old) (N.faults random.old))
         (outside (I.Channel.left input.new) (I.Channel.read_faults input.new)
         (O.Channel.written output.new) (O.Channel.write_faults output.new)
-        (N.draws random.new) (N.faults random.new)) result }
+        (S.Holder.held suite.new) (S.Holder.faults suite.new) (N.draws random.new) (N.faults random.new)) result }
     ensures done { result ≡ status.Done → (N.faults random.new ≡ N.faults random.old)
+        × (S.Holder.faults suite.new ≡ S.Holder.faults suite.old)
         × (I.Channel.read_faults input.new ≡ I.Channel.read_faults input.old)
         × (O.Channel.write_faults output.new ≡ O.Channel.write_faults output.old) }
     ensures read { result ≡ status.Read → Rises (I.Channel.read_faults input.old) (I.Channel.read_faults input.new) }
     ensures write { result ≡ status.Write → Rises (O.Channel.write_faults output.old) (O.Channel.write_faults output.new) }
-    ensures random_failed { result ≡ status.Random → Rises (N.faults random.old) (N.faults random.new) }
-    ensures held { S.Holder.held suite.new ≡ S.Holder.held suite.old }
-    ensures suite_faults { S.Holder.faults suite.new ≡ S.Holder.faults suite.old }
+    ensures outside_failed { result ≡ status.Outside → Rises (N.faults random.old) (N.faults random.new)
+        ⊎ SuiteRises (S.Holder.faults suite.old) (S.Holder.faults suite.new) }
+    // The keys that the suite held are held still.
+    ensures held { (key : List ℕ) → S.Holder.held suite.old key ≡ true → S.Holder.held suite.new key ≡ true }
     ensures input_written { I.Channel.written input.new ≡ I.Channel.written input.old }
     ensures input_write_faults { I.Channel.write_faults input.new ≡ I.Channel.write_faults input.old }
     ensures output_left { O.Channel.left output.new ≡ O.Channel.left output.old }
     ensures output_read_faults { O.Channel.read_faults output.new ≡ O.Channel.read_faults output.old }
 {
-    match Command::of(words) {
-        Some(Command::StepRendezvous) => step_rendezvous(alloc, input, output, random),
-        Some(Command::VoucherShow) => voucher_show(alloc, input, output),
-        Some(Command::VoucherCheck) => voucher_check(alloc, input, output, suite),
-        None => {
+    match Command::of(alloc, words) {
+        Ok(Some(command)) => run(alloc, command, input, output, suite, random),
+        Ok(None) => {
             end_with(output, b"fault words\n");
             Status::Words
+        }
+        Err(_) => Status::NoMemory,
+    }
+}
+
+/// Runs a command over these objects of the outside.
+fn run<I: Source, O: Sink, S: Suite, N: Random>(
+    alloc: Global,
+    command: Command,
+    input: &mut I,
+    output: &mut O,
+    suite: &mut S,
+    random: &mut N,
+) -> Status
+    ensures ran { Ran (signing S.Verifier.verifies S.Signer.algorithm S.Signer.loads) command
+        (outside (I.Channel.left input.old) (I.Channel.read_faults input.old)
+        (O.Channel.written output.old) (O.Channel.write_faults output.old)
+        (S.Holder.held suite.old) (S.Holder.faults suite.old) (N.draws random.old) (N.faults random.old))
+        (outside (I.Channel.left input.new) (I.Channel.read_faults input.new)
+        (O.Channel.written output.new) (O.Channel.write_faults output.new)
+        (S.Holder.held suite.new) (S.Holder.faults suite.new) (N.draws random.new) (N.faults random.new)) result }
+    ensures words { result ≡ status.Words → Unloadable S.Signer.loads command }
+    ensures done { result ≡ status.Done → (N.faults random.new ≡ N.faults random.old)
+        × (S.Holder.faults suite.new ≡ S.Holder.faults suite.old)
+        × (I.Channel.read_faults input.new ≡ I.Channel.read_faults input.old)
+        × (O.Channel.write_faults output.new ≡ O.Channel.write_faults output.old) }
+    ensures read { result ≡ status.Read → Rises (I.Channel.read_faults input.old) (I.Channel.read_faults input.new) }
+    ensures write { result ≡ status.Write → Rises (O.Channel.write_faults output.old) (O.Channel.write_faults output.new) }
+    ensures outside_failed { result ≡ status.Outside → Rises (N.faults random.old) (N.faults random.new)
+        ⊎ SuiteRises (S.Holder.faults suite.old) (S.Holder.faults suite.new) }
+    ensures held { (key : List ℕ) → S.Holder.held suite.old key ≡ true → S.Holder.held suite.new key ≡ true }
+    ensures input_written { I.Channel.written input.new ≡ I.Channel.written input.old }
+    ensures input_write_faults { I.Channel.write_faults input.new ≡ I.Channel.write_faults input.old }
+    ensures output_left { O.Channel.left output.new ≡ O.Channel.left output.old }
+    ensures output_read_faults { O.Channel.read_faults output.new ≡ O.Channel.read_faults output.old }
+{
+    match command {
+        Command::StepRendezvous => step_rendezvous(alloc, input, output, random),
+        Command::VoucherShow => voucher_show(alloc, input, output),
+        Command::VoucherCheck => voucher_check(alloc, input, output, suite),
+        Command::VoucherExtend(next, private) => {
+            voucher_extend(alloc, &next, private.as_list(), input, output, suite)
         }
     }
 }
@@ -88,7 +136,8 @@ fn step_rendezvous<I: Source, O: Sink, N: Random>(
         × (O.Channel.write_faults output.new ≡ O.Channel.write_faults output.old) }
     ensures read { result ≡ status.Read → Rises (I.Channel.read_faults input.old) (I.Channel.read_faults input.new) }
     ensures write { result ≡ status.Write → Rises (O.Channel.write_faults output.old) (O.Channel.write_faults output.new) }
-    ensures random_failed { result ≡ status.Random → Rises (N.faults random.old) (N.faults random.new) }
+    ensures no_words { result ≢ status.Words }
+    ensures random_failed { result ≡ status.Outside → Rises (N.faults random.old) (N.faults random.new) }
     ensures input_written { I.Channel.written input.new ≡ I.Channel.written input.old }
     ensures input_write_faults { I.Channel.write_faults input.new ≡ I.Channel.write_faults input.old }
     ensures output_left { O.Channel.left output.new ≡ O.Channel.left output.old }
@@ -129,7 +178,8 @@ fn step_handler<I: Source, O: Sink, N: Random>(
         × (O.Channel.write_faults output.new ≡ O.Channel.write_faults output.old) }
     ensures read { result ≡ status.Read → Rises (I.Channel.read_faults input.old) (I.Channel.read_faults input.new) }
     ensures write { result ≡ status.Write → Rises (O.Channel.write_faults output.old) (O.Channel.write_faults output.new) }
-    ensures random_failed { result ≡ status.Random → Rises (N.faults handler.old.random.now) (N.faults handler.new.random.now) }
+    ensures no_words { result ≢ status.Words }
+    ensures random_failed { result ≡ status.Outside → Rises (N.faults handler.old.random.now) (N.faults handler.new.random.now) }
     ensures input_written { I.Channel.written input.new ≡ I.Channel.written input.old }
     ensures input_write_faults { I.Channel.write_faults input.new ≡ I.Channel.write_faults input.old }
     ensures output_left { O.Channel.left output.new ≡ O.Channel.left output.old }

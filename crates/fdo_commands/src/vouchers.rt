@@ -4,7 +4,7 @@ ghost use Rattle.fdo_commands.specs.declared.status.Status.TheVariants as status
 ghost use Rattle.fdo_commands.specs.declared.texts.Told.TheVariants as told;
 ghost use Rattle.fdo_commands.specs.Ending.{streams};
 ghost use Rattle.fdo_commands.specs.Texts.{TextEnds};
-ghost use Rattle.fdo_commands.specs.Vouchers.{check_of, fault_place as place_of, refused_as, show_of, told_as};
+ghost use Rattle.fdo_commands.specs.Vouchers.{Checks, Shows, check_of, fault_place as place_of, refused_as, show_of, told_as};
 ghost use Rattle.voucher_chain.specs.declared.fault.ChainFault.TheVariants.{NoMemory as OutOfMemory};
 ghost use Rattle.voucher_tool.specs.Check.{check_told};
 ghost use Rattle.voucher_tool.specs.Show.{show_text};
@@ -27,7 +27,7 @@ pub(crate) fn voucher_show<I: Source, O: Sink>(
     input: &mut I,
     output: &mut O,
 ) -> Status
-    ensures ends { TextEnds show_of
+    ensures ends { TextEnds Shows
         (streams (I.Channel.left input.old) (I.Channel.read_faults input.old)
         (O.Channel.written output.old) (O.Channel.write_faults output.old))
         (streams (I.Channel.left input.new) (I.Channel.read_faults input.new)
@@ -37,7 +37,7 @@ pub(crate) fn voucher_show<I: Source, O: Sink>(
     ensures read { result ≡ status.Read → Rises (I.Channel.read_faults input.old) (I.Channel.read_faults input.new) }
     ensures write { result ≡ status.Write → Rises (O.Channel.write_faults output.old) (O.Channel.write_faults output.new) }
     ensures no_words { result ≢ status.Words }
-    ensures no_random { result ≢ status.Random }
+    ensures no_outside { result ≢ status.Outside }
     ensures input_written { I.Channel.written input.new ≡ I.Channel.written input.old }
     ensures input_write_faults { I.Channel.write_faults input.new ≡ I.Channel.write_faults input.old }
     ensures output_left { O.Channel.left output.new ≡ O.Channel.left output.old }
@@ -47,7 +47,7 @@ pub(crate) fn voucher_show<I: Source, O: Sink>(
 }
 
 fn show_input<I: Source, O: Sink>(alloc: Global, input: &mut I, output: &mut O) -> Status
-    ensures ends { TextEnds show_of
+    ensures ends { TextEnds Shows
         (streams (I.Channel.left input.old) (I.Channel.read_faults input.old)
         (O.Channel.written output.old) (O.Channel.write_faults output.old))
         (streams (I.Channel.left input.new) (I.Channel.read_faults input.new)
@@ -70,7 +70,7 @@ pub(crate) fn voucher_check<I: Source, O: Sink, S: Suite>(
     output: &mut O,
     suite: &mut S,
 ) -> Status
-    ensures ends { TextEnds (check_of S.Verifier.verifies)
+    ensures ends { TextEnds (Checks S.Verifier.verifies)
         (streams (I.Channel.left input.old) (I.Channel.read_faults input.old)
         (O.Channel.written output.old) (O.Channel.write_faults output.old))
         (streams (I.Channel.left input.new) (I.Channel.read_faults input.new)
@@ -80,7 +80,7 @@ pub(crate) fn voucher_check<I: Source, O: Sink, S: Suite>(
     ensures read { result ≡ status.Read → Rises (I.Channel.read_faults input.old) (I.Channel.read_faults input.new) }
     ensures write { result ≡ status.Write → Rises (O.Channel.write_faults output.old) (O.Channel.write_faults output.new) }
     ensures no_words { result ≢ status.Words }
-    ensures no_random { result ≢ status.Random }
+    ensures no_outside { result ≢ status.Outside }
     ensures held { S.Holder.held suite.new ≡ S.Holder.held suite.old }
     ensures suite_faults { S.Holder.faults suite.new ≡ S.Holder.faults suite.old }
     ensures input_written { I.Channel.written input.new ≡ I.Channel.written input.old }
@@ -97,7 +97,7 @@ fn check_input<I: Source, O: Sink, S: Suite>(
     output: &mut O,
     suite: &mut S,
 ) -> Status
-    ensures ends { TextEnds (check_of S.Verifier.verifies)
+    ensures ends { TextEnds (Checks S.Verifier.verifies)
         (streams (I.Channel.left input.old) (I.Channel.read_faults input.old)
         (O.Channel.written output.old) (O.Channel.write_faults output.old))
         (streams (I.Channel.left input.new) (I.Channel.read_faults input.new)
@@ -164,7 +164,8 @@ fn checked<S: Suite>(alloc: Global, suite: &mut S, voucher: &Voucher) -> Result<
     }
 }
 
-fn refused(alloc: Global, fault: ChainFault) -> Result<Told, NoMemory>
+/// What is told of a voucher that is refused.
+pub(crate) fn refused(alloc: Global, fault: ChainFault) -> Result<Told, NoMemory>
     ensures { IfOk result (λ what. (fault ≢ OutOfMemory) × (what ≡ refused_as fault)) }
 {
     match fault {

@@ -1,6 +1,7 @@
-ghost use Rattle.std.specs.Prelude.{◌≡◌};
+ghost use Rattle.std.specs.Prelude.{◌≡◌, ◌⊎◌, ℕ, List, true};
 ghost use Rattle.fdo_commands.specs.declared.status.Status.TheVariants as status;
-ghost use Rattle.fdo_commands.specs.Ran.{outside};
+ghost use Rattle.suite_port.specs.Answer.{Rises as SuiteRises};
+ghost use Rattle.fdo_commands.specs.Outside.{outside, signing};
 ghost use Rattle.fdo_ports.specs.Count.{Rises};
 ghost use Rattle.fdo_program.specs.OwnRun.{RanProgram};
 
@@ -20,17 +21,21 @@ pub fn answer<I: Source, O: Sink, S: Suite, N: Random>(
     suite: &mut S,
     random: &mut N,
 ) -> Status
-    ensures ran { RanProgram S.Verifier.verifies words.now
-        (outside (I.Channel.left input.old) (I.Channel.read_faults input.old) (O.Channel.written output.old) (O.Channel.write_faults output.old) (N.draws random.old) (N.faults random.old))
-        (outside (I.Channel.left input.new) (I.Channel.read_faults input.new) (O.Channel.written output.new) (O.Channel.write_faults output.new) (N.draws random.new) (N.faults random.new)) result }
+    ensures ran { RanProgram (signing S.Verifier.verifies S.Signer.algorithm S.Signer.loads) words.now
+        (outside (I.Channel.left input.old) (I.Channel.read_faults input.old) (O.Channel.written output.old) (O.Channel.write_faults output.old)
+        (S.Holder.held suite.old) (S.Holder.faults suite.old) (N.draws random.old) (N.faults random.old))
+        (outside (I.Channel.left input.new) (I.Channel.read_faults input.new) (O.Channel.written output.new) (O.Channel.write_faults output.new)
+        (S.Holder.held suite.new) (S.Holder.faults suite.new) (N.draws random.new) (N.faults random.new)) result }
     ensures done { result ≡ status.Done → (N.faults random.new ≡ N.faults random.old)
+        × (S.Holder.faults suite.new ≡ S.Holder.faults suite.old)
         × (I.Channel.read_faults input.new ≡ I.Channel.read_faults input.old)
         × (O.Channel.write_faults output.new ≡ O.Channel.write_faults output.old) }
     ensures read { result ≡ status.Read → Rises (I.Channel.read_faults input.old) (I.Channel.read_faults input.new) }
     ensures write { result ≡ status.Write → Rises (O.Channel.write_faults output.old) (O.Channel.write_faults output.new) }
-    ensures random_failed { result ≡ status.Random → Rises (N.faults random.old) (N.faults random.new) }
-    ensures held { S.Holder.held suite.new ≡ S.Holder.held suite.old }
-    ensures suite_faults { S.Holder.faults suite.new ≡ S.Holder.faults suite.old }
+    ensures outside_failed { result ≡ status.Outside → Rises (N.faults random.old) (N.faults random.new)
+        ⊎ SuiteRises (S.Holder.faults suite.old) (S.Holder.faults suite.new) }
+    // The keys that the suite held are held still.
+    ensures held { (key : List ℕ) → S.Holder.held suite.old key ≡ true → S.Holder.held suite.new key ≡ true }
 {
     match OwnWord::of(words) {
         Some(word) => match word.answer(output) {

@@ -3,6 +3,7 @@ pub const HELP: &str = "\
 usage: fdo step rendezvous
        fdo voucher show
        fdo voucher check
+       fdo voucher extend KEY PRIVATE
        fdo --help
        fdo --version
 
@@ -14,6 +15,12 @@ Commands
   voucher show      what an ownership voucher says; its bytes are the input
   voucher check     whether its chain of owners holds, with the signatures of
                     the laboratory suite
+  voucher extend    a voucher with one more entry, for the next owner; both
+                    are bytes, on standard input and standard output
+
+Words of voucher extend
+  KEY               the next owner's public key, the hex of its CBOR
+  PRIVATE           the last owner's private key, in hex
 
 Input of step: one line for each message
   KIND TOKEN BODY   and a line feed, with one space between the words
@@ -33,19 +40,24 @@ Output of voucher check
   ok N owner HASH   the number of entries, and the SHA-256 of the last owner's
                     key
 
+Output of voucher extend: the longer voucher's bytes, and nothing else
+
 Exit status, and the last line that is written for it
    0  done: the input was read to its end
-   2  the words are no command: `fault words`
+   2  the words are no command, KEY is no public key, or PRIVATE is no private
+      key of the suite: `fault words`
    3  the input is wrong, and nothing is answered: `fault input N`, where N is
-      the offset of the first wrong line, or of the first wrong byte of a
-      voucher
+      the offset of the first wrong line, or of the part of a voucher that is
+      wrong or holds what is wrong; 0 where `voucher show` gets more than 255
+      entries
    4  reading the input failed: `fault read`
    5  writing the output failed
    7  out of memory
    8  the input has more than 16,777,216 bytes: `fault limit`
    9  the voucher is refused: `refused CAUSE`, and the number of the entry where
-      it has one
-  11  the source of random draws failed: `fault random`
+      it has one; for `voucher extend` the new one's
+  11  the source of random draws failed: `fault random`, or the suite as it
+      took the private key: `fault signer`
 ";
 
 /// What `--version` writes.

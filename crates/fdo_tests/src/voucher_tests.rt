@@ -1,4 +1,4 @@
-//! `voucher show` and `voucher check` over objects in memory.
+//! `voucher show`, `voucher check` and `voucher extend` over objects in memory.
 use cbor_core::Text;
 use fdo_commands::{Status, fdo};
 use fdo_ports::{ListRandom, MemorySink, MemorySource};
@@ -23,47 +23,261 @@ entry 0 key 200 0 5d6f1822ccc972c06780a3a6bf6d6955d499b0fb9058c24ae76e3769eb573e
 const CHECKED: &[u8] =
     b"ok 1 owner 5d6f1822ccc972c06780a3a6bf6d6955d499b0fb9058c24ae76e3769eb573e4b\n";
 
-/// One run: the command, the place of a byte whose last bit is changed, how many of the voucher's bytes are the input,
-/// the number of the read and the write that fails, and what has to be written and answered.
+/// The laboratory key of the next owner.
+const NEXT: &str = "8318C8004106";
+
+/// More bytes than a laboratory key has.
+const LONG: &str = "020202020202020202020202020202020202020202020202020202020202020202";
+
+/// The entry for that owner, which the owner with the private byte 2 signed, as Python's hashlib has it.
+const ENTRY: &str =
+    "d28447a1013a00010000a0585084822f5820ed45a4d121dd3a418cb8ed996176402b892c5e3d605a91d5806dbd81d730b55a822f5820ab280928afbd5b1d26551589aca8c572262397cda2e611791d092ef9d8520dfef68318c8004106582022f475f869185ddcd576ada196f435d921d18b7f946b9d8f42cbfcf7489eaa54";
+
+/// One run: the command, its KEY and PRIVATE, the place of a byte whose last bit is changed, how many of the voucher's
+/// bytes are the input, the numbers of the read, the write and the call of the signer that fail, and what has to be written
+/// and answered.
 type Case = (
     &'static str,
+    Option<[&'static str; 2]>,
     Option<usize>,
     usize,
-    [u64; 2],
+    [u64; 3],
     &'static [u8],
     Status,
 );
 
-static CASES: [Case; 15] = [
-    ("show", None, 256, [0, 0], SHOWN, Status::Done),
-    ("check", None, 256, [0, 0], CHECKED, Status::Done),
-    ("show", Some(240), 256, [0, 0], SHOWN, Status::Done),
+static CASES: [Case; 31] = [
+    ("show", None, None, 256, [0, 0, 0], SHOWN, Status::Done),
+    ("check", None, None, 256, [0, 0, 0], CHECKED, Status::Done),
+    ("show", None, Some(240), 256, [0, 0, 0], SHOWN, Status::Done),
     (
         "check",
+        None,
         Some(9),
         256,
-        [0, 0],
+        [0, 0, 0],
         b"refused badprevhash 0\n",
         Status::Refused,
     ),
     (
         "check",
+        None,
         Some(240),
         256,
-        [0, 0],
+        [0, 0, 0],
         b"refused badsignature 0\n",
         Status::Refused,
     ),
-    ("check", Some(9), 256, [0, 1], b"", Status::Refused),
-    ("show", None, 4, [0, 0], b"fault input 3\n", Status::Input),
-    ("check", None, 4, [0, 0], b"fault input 3\n", Status::Input),
-    ("show", None, 0, [0, 0], b"fault input 0\n", Status::Input),
-    ("check", None, 0, [0, 0], b"fault input 0\n", Status::Input),
-    ("show", None, 256, [0, 1], b"", Status::Write),
-    ("check", None, 256, [0, 1], b"", Status::Write),
-    ("show", None, 256, [1, 0], b"fault read\n", Status::Read),
-    ("check", None, 256, [1, 0], b"fault read\n", Status::Read),
-    ("shown", None, 256, [0, 0], b"fault words\n", Status::Words),
+    ("check", None, Some(9), 256, [0, 1, 0], b"", Status::Refused),
+    (
+        "show",
+        None,
+        None,
+        4,
+        [0, 0, 0],
+        b"fault input 3\n",
+        Status::Input,
+    ),
+    (
+        "check",
+        None,
+        None,
+        4,
+        [0, 0, 0],
+        b"fault input 3\n",
+        Status::Input,
+    ),
+    (
+        "show",
+        None,
+        None,
+        0,
+        [0, 0, 0],
+        b"fault input 0\n",
+        Status::Input,
+    ),
+    (
+        "check",
+        None,
+        None,
+        0,
+        [0, 0, 0],
+        b"fault input 0\n",
+        Status::Input,
+    ),
+    ("show", None, None, 256, [0, 1, 0], b"", Status::Write),
+    ("check", None, None, 256, [0, 1, 0], b"", Status::Write),
+    (
+        "show",
+        None,
+        None,
+        256,
+        [1, 0, 0],
+        b"fault read\n",
+        Status::Read,
+    ),
+    (
+        "check",
+        None,
+        None,
+        256,
+        [1, 0, 0],
+        b"fault read\n",
+        Status::Read,
+    ),
+    (
+        "shown",
+        None,
+        None,
+        256,
+        [0, 0, 0],
+        b"fault words\n",
+        Status::Words,
+    ),
+    (
+        "extend",
+        Some([NEXT, "04"]),
+        None,
+        256,
+        [0, 0, 0],
+        b"refused badsignature 1\n",
+        Status::Refused,
+    ),
+    (
+        "extend",
+        Some([NEXT, "0202"]),
+        None,
+        256,
+        [0, 0, 0],
+        b"refused badsignature 1\n",
+        Status::Refused,
+    ),
+    (
+        "extend",
+        Some([NEXT, "02"]),
+        None,
+        256,
+        [0, 0, 1],
+        b"fault signer\n",
+        Status::Outside,
+    ),
+    (
+        "extend",
+        Some([NEXT, "02"]),
+        None,
+        256,
+        [0, 0, 2],
+        b"refused failed\n",
+        Status::Refused,
+    ),
+    (
+        "extend",
+        Some([NEXT, "02"]),
+        None,
+        256,
+        [0, 1, 0],
+        b"",
+        Status::Write,
+    ),
+    (
+        "extend",
+        Some([NEXT, "02"]),
+        None,
+        256,
+        [1, 0, 0],
+        b"fault read\n",
+        Status::Read,
+    ),
+    (
+        "extend",
+        Some([NEXT, "02"]),
+        None,
+        4,
+        [0, 0, 0],
+        b"fault input 3\n",
+        Status::Input,
+    ),
+    (
+        "extend",
+        Some([NEXT, "02"]),
+        None,
+        0,
+        [0, 0, 0],
+        b"fault input 0\n",
+        Status::Input,
+    ),
+    (
+        "extend",
+        Some([NEXT, ""]),
+        None,
+        256,
+        [1, 0, 0],
+        b"fault words\n",
+        Status::Words,
+    ),
+    (
+        "extend",
+        Some([NEXT, "2"]),
+        None,
+        256,
+        [1, 0, 1],
+        b"fault words\n",
+        Status::Words,
+    ),
+    (
+        "extend",
+        Some([NEXT, LONG]),
+        None,
+        256,
+        [1, 0, 0],
+        b"fault words\n",
+        Status::Words,
+    ),
+    (
+        "extend",
+        Some(["", "02"]),
+        None,
+        256,
+        [1, 0, 1],
+        b"fault words\n",
+        Status::Words,
+    ),
+    (
+        "extend",
+        Some(["8318c800410600", "02"]),
+        None,
+        256,
+        [1, 0, 1],
+        b"fault words\n",
+        Status::Words,
+    ),
+    (
+        "extend",
+        Some(["8309004106", "02"]),
+        None,
+        256,
+        [1, 0, 1],
+        b"fault words\n",
+        Status::Words,
+    ),
+    (
+        "extend",
+        None,
+        None,
+        256,
+        [1, 0, 1],
+        b"fault words\n",
+        Status::Words,
+    ),
+    (
+        "check",
+        Some([NEXT, "02"]),
+        None,
+        256,
+        [1, 0, 1],
+        b"fault words\n",
+        Status::Words,
+    ),
 ];
 
 fn numbers(alloc: Global, number: u64) -> Result<Vec<u64>, Fail> {
@@ -75,34 +289,51 @@ fn numbers(alloc: Global, number: u64) -> Result<Vec<u64>, Fail> {
 }
 
 /// The bytes of the input.
-fn input_of(alloc: Global, case: &Case) -> Result<Vec<u8>, Fail> {
+fn input_of(alloc: Global, changed: Option<usize>, count: usize) -> Result<Vec<u8>, Fail> {
     let mut bytes = hex::decode(alloc, VOUCHER)?;
-    if let Some(place) = case.1 {
+    if let Some(place) = changed {
         for (number, byte) in bytes.as_mut_slice().iter_mut().enumerate() {
             if number == place {
                 *byte ^= 1;
             }
         }
     }
-    bytes.truncate(case.2);
+    bytes.truncate(count);
     Ok(bytes)
 }
 
-/// What a run writes, and how it ends.
-fn run(alloc: Global, case: &Case) -> Result<(Vec<u8>, Status), Fail> {
-    let [read, write] = case.3;
+fn words_of(
+    alloc: Global,
+    command: &str,
+    more: &Option<[&'static str; 2]>,
+) -> Result<Vec<Text>, Fail> {
     let mut words = Vec::new(alloc);
     words.push(Text::from_str(alloc, "voucher")?)?;
-    words.push(Text::from_str(alloc, case.0)?)?;
+    words.push(Text::from_str(alloc, command)?)?;
+    if let Some([key, private]) = more {
+        words.push(Text::from_str(alloc, key)?)?;
+        words.push(Text::from_str(alloc, private)?)?;
+    }
+    Ok(words)
+}
+
+/// What a run writes, and how it ends.
+fn run(
+    alloc: Global,
+    words: &[Text],
+    input: Vec<u8>,
+    fails: [u64; 3],
+) -> Result<(Vec<u8>, Status), Fail> {
+    let [read, write, sign] = fails;
     let mut pieces = Vec::new(alloc);
-    pieces.push(input_of(alloc, case)?)?;
+    pieces.push(input)?;
     let mut input = MemorySource::new(pieces, numbers(alloc, read)?);
     let mut output = MemorySink::new(Vec::new(alloc), numbers(alloc, write)?);
-    let mut suite = LabSuite::new(Vec::new(alloc));
+    let mut suite = LabSuite::new(numbers(alloc, sign)?);
     let mut random = ListRandom::new(Vec::new(alloc), Vec::new(alloc));
     let status = fdo(
         alloc,
-        words.as_slice(),
+        words,
         &mut input,
         &mut output,
         &mut suite,
@@ -112,11 +343,38 @@ fn run(alloc: Global, case: &Case) -> Result<(Vec<u8>, Status), Fail> {
 }
 
 #[test]
-fn vouchers_are_shown_and_checked(rt: HostRuntime) -> Result<(), Fail> {
-    for case in &CASES {
-        let (output, status) = run(rt.alloc(), case)?;
-        assert_eq!(rt; output.as_slice(), case.4);
-        assert_eq!(rt; status, case.5);
+fn vouchers_are_shown_checked_and_refused(rt: HostRuntime) -> Result<(), Fail> {
+    for (command, more, changed, count, fails, wanted, status) in &CASES {
+        let words = words_of(rt.alloc(), command, more)?;
+        let input = input_of(rt.alloc(), *changed, *count)?;
+        let (output, ended) = run(rt.alloc(), words.as_slice(), input, *fails)?;
+        assert_eq!(rt; output.as_slice(), *wanted);
+        assert_eq!(rt; ended, *status);
     }
+    Ok(())
+}
+
+/// The voucher with two entries in place of one, and the new one behind the first.
+fn longer(alloc: Global) -> Result<Vec<u8>, Fail> {
+    let mut bytes = hex::decode(alloc, VOUCHER)?;
+    for (number, byte) in bytes.as_mut_slice().iter_mut().enumerate() {
+        if number == 128 {
+            *byte ^= 3;
+        }
+    }
+    bytes.extend_from_slice(hex::decode(alloc, ENTRY)?.as_slice())?;
+    Ok(bytes)
+}
+
+/// The next owner and the last one.
+static OWNERS: Option<[&'static str; 2]> = Some([NEXT, "02"]);
+
+#[test]
+fn a_voucher_is_extended(rt: HostRuntime) -> Result<(), Fail> {
+    let words = words_of(rt.alloc(), "extend", &OWNERS)?;
+    let input = input_of(rt.alloc(), None, 256)?;
+    let (output, ended) = run(rt.alloc(), words.as_slice(), input, [0, 0, 0])?;
+    assert_eq!(rt; output.as_slice(), longer(rt.alloc())?.as_slice());
+    assert_eq!(rt; ended, Status::Done);
     Ok(())
 }

@@ -1,6 +1,6 @@
 use Rattle.std.proofs.Common.{subst, sym}
 use Rattle.fdo_commands.specs.Stream.{TookAll}
-use Rattle.fdo_commands.specs.Vouchers.{show_of}
+use Rattle.fdo_commands.specs.Vouchers.{Shows}
 use Rattle.fdo_commands.proofs.TextsMore.{found_ends, unread_ends}
 use Rattle.fdo_commands.proofs.vouchers.show_input.Goals as goal
 
@@ -8,8 +8,8 @@ pub returns-in-Ok-clause-ends : goal.returns-in-Ok-clause-ends
 returns-in-Ok-clause-ends g c =
     let left = g.I.Channel.left in
     let took = subst (TookAll (left c.args.input.now) (left c.read_input.new.input)) (sym c.as_slice.ensures.value) c.in-Ok.ensures.bytes in
-    found_ends show_of _ _ c.as_slice.result.now took c.in-Ok.ensures.faults c.show_bytes.result c.show_bytes.ensures c.end_found.result c.end_found.ensures.found
+    found_ends Shows _ _ c.as_slice.result.now took c.in-Ok.ensures.faults c.show_bytes.result c.show_bytes.ensures c.end_found.result c.end_found.ensures.found
 
 pub returns-in-Err-clause-ends : goal.returns-in-Err-clause-ends
 returns-in-Err-clause-ends g c =
-    unread_ends show_of _ _ c.in-Err.fault c.in-Err.ensures.bytes c.in-Err.ensures.faults c.end_unread.result c.end_unread.ensures.fails
+    unread_ends Shows _ _ c.in-Err.fault c.in-Err.ensures.bytes c.in-Err.ensures.faults c.end_unread.result c.end_unread.ensures.fails

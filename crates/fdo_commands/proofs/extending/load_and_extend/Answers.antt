@@ -1,0 +1,14 @@
+use Rattle.std.proofs.Common.{ℕ, refl}
+use Rattle.std.specs.declared.alloc.Global.{Global}
+use Rattle.std.specs.declared.vec.Vec.{Vec}
+use Rattle.fdo_commands.specs.Outside.{signing}
+use Rattle.fdo_commands.proofs.ExtendMore.{after_load, unloaded_ends}
+use Rattle.fdo_commands.proofs.extending.load_and_extend.Goals as goal
+
+pub returns-in-Ok-clause-ends : goal.returns-in-Ok-clause-ends
+returns-in-Ok-clause-ends g c =
+    after_load (signing g.S.Verifier.verifies g.S.Signer.algorithm g.S.Signer.loads) _ _ _ _ _ _ _ _ _ _ c.in-Ok.ensures.known c.in-Ok._key.items c.in-Ok.ensures.held c.in-Ok.ensures.faults c.extend_input.ensures.held c.extend_input.result c.extend_input.ensures.ends
+
+pub returns-in-Err-clause-ends : goal.returns-in-Err-clause-ends
+returns-in-Err-clause-ends g c =
+    unloaded_ends (Vec ℕ Global) (signing g.S.Verifier.verifies g.S.Signer.algorithm g.S.Signer.loads) _ _ _ _ _ _ _ _ _ _ _ _ _ _ c.in-Err.fault c.in-Err.ensures.known c.in-Err.ensures.held c.in-Err.ensures.faults refl refl c.end_unloaded.result c.end_unloaded.ensures.unloaded

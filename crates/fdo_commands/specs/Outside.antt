@@ -1,0 +1,47 @@
+-- The objects of the outside, as a command meets them.
+use Rattle.std.specs.Prelude.{◌≡◌, ℕ, ℤ, Bool, List, Option, codes}
+use Rattle.fdo_ports.specs.Draw.{Drawn}
+use Rattle.voucher_chain.specs.Chain.{Verifies}
+use Rattle.fdo_commands.specs.Ending.{EndsWith, Streams, streams}
+
+-- the keys that a suite holds, and its count of faults
+pub record Keys : Type 0 where
+  pub held : List ℕ → Bool
+  pub faults : ℕ
+
+abbrev pub keys : (List ℕ → Bool) → ℕ → Keys
+keys held faults = record { held = held; faults = faults }
+
+-- what the objects tell, and their counts of faults
+pub record Outside : Type 0 where
+  pub streams : Streams
+  pub suite : Keys
+  pub random : Drawn
+
+abbrev pub outside : Option (List ℕ) → ℕ → Option (List ℕ) → ℕ → (List ℕ → Bool) → ℕ → Option (List (List ℕ)) → ℕ → Outside
+outside left read_faults written write_faults held suite_faults draws draw_faults = record {
+  streams = streams left read_faults written write_faults;
+  suite = record { held = held; faults = suite_faults };
+  random = record { draws = draws; faults = draw_faults };
+}
+
+-- what a suite says of signatures and keys, whichever of them it holds
+pub record Signing : Type 0 where
+  pub verifies : Verifies
+  pub algorithm : List ℕ → Option ℤ
+  pub loads : List ℕ → Bool
+
+abbrev pub signing : Verifies → (List ℕ → Option ℤ) → (List ℕ → Bool) → Signing
+signing verifies algorithm loads = record { verifies = verifies; algorithm = algorithm; loads = loads }
+
+-- a last line is all that is done to the input and the output
+pub record OnlyLine (text : List ℕ) (before after : Streams) : Type 0 where
+  pub line : EndsWith before.written before.write_faults after.written after.write_faults text
+  pub left : after.left ≡ before.left
+  pub read_faults : after.read_faults ≡ before.read_faults
+
+-- no command ran: that is the last line, and nothing is read, loaded or drawn
+pub record RanNone (before after : Outside) : Type 0 where
+  pub line : OnlyLine (codes "fault words\n") before.streams after.streams
+  pub suite : after.suite ≡ before.suite
+  pub random : after.random ≡ before.random

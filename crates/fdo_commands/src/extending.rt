@@ -1,0 +1,143 @@
+ghost use Rattle.std.specs.Prelude.{◌≡◌, ◌⊎◌, ℕ, List, true, false, IfOk, IfErr};
+ghost use Rattle.fdo_ports.specs.Count.{Rises};
+ghost use Rattle.suite_port.specs.Answer.{Rises as SuiteRises};
+ghost use Rattle.fdo_commands.specs.declared.status.Status.TheVariants as status;
+ghost use Rattle.fdo_commands.specs.Ending.{streams};
+ghost use Rattle.fdo_commands.specs.Extending.{EntryEnds, ExtendEnds, Unloaded};
+ghost use Rattle.fdo_commands.specs.Outside.{keys, signing};
+ghost use Rattle.fdo_commands.specs.Vouchers.{Extends};
+
+use crate::fault_line::end_with;
+use crate::input::read_input;
+use crate::status::Status;
+use crate::texts::{Told, end_found, end_unread};
+use crate::vouchers::refused;
+use cbor_core::NoMemory;
+use fdo_ports::{Sink, Source};
+use key_codec::PublicKey;
+use std::alloc::Global;
+use suite_port::{Suite, SuiteFault};
+use voucher_tool::extend_file;
+
+/// Adds an entry for the next owner to a voucher, and writes the longer one's bytes. The private key of the last owner is
+/// loaded first.
+pub(crate) fn voucher_extend<I: Source, O: Sink, S: Suite>(
+    alloc: Global,
+    next: &PublicKey,
+    private: &[u8],
+    input: &mut I,
+    output: &mut O,
+    suite: &mut S,
+) -> Status
+    ensures ends { ExtendEnds (signing S.Verifier.verifies S.Signer.algorithm S.Signer.loads) next.now private.now
+        (keys (S.Holder.held suite.old) (S.Holder.faults suite.old)) (keys (S.Holder.held suite.new) (S.Holder.faults suite.new))
+        (streams (I.Channel.left input.old) (I.Channel.read_faults input.old)
+        (O.Channel.written output.old) (O.Channel.write_faults output.old))
+        (streams (I.Channel.left input.new) (I.Channel.read_faults input.new)
+        (O.Channel.written output.new) (O.Channel.write_faults output.new)) result }
+    ensures words { result ≡ status.Words → S.Signer.loads private.now ≡ false }
+    ensures done { result ≡ status.Done → (S.Holder.faults suite.new ≡ S.Holder.faults suite.old)
+        × (I.Channel.read_faults input.new ≡ I.Channel.read_faults input.old)
+        × (O.Channel.write_faults output.new ≡ O.Channel.write_faults output.old) }
+    ensures read { result ≡ status.Read → Rises (I.Channel.read_faults input.old) (I.Channel.read_faults input.new) }
+    ensures write { result ≡ status.Write → Rises (O.Channel.write_faults output.old) (O.Channel.write_faults output.new) }
+    ensures outside_failed { result ≡ status.Outside → SuiteRises (S.Holder.faults suite.old) (S.Holder.faults suite.new) }
+    ensures held { (key : List ℕ) → S.Holder.held suite.old key ≡ true → S.Holder.held suite.new key ≡ true }
+    ensures input_written { I.Channel.written input.new ≡ I.Channel.written input.old }
+    ensures input_write_faults { I.Channel.write_faults input.new ≡ I.Channel.write_faults input.old }
+    ensures output_left { O.Channel.left output.new ≡ O.Channel.left output.old }
+    ensures output_read_faults { O.Channel.read_faults output.new ≡ O.Channel.read_faults output.old }
+{
+    load_and_extend(alloc, next, private, input, output, suite)
+}
+
+fn load_and_extend<I: Source, O: Sink, S: Suite>(
+    alloc: Global,
+    next: &PublicKey,
+    private: &[u8],
+    input: &mut I,
+    output: &mut O,
+    suite: &mut S,
+) -> Status
+    ensures ends { ExtendEnds (signing S.Verifier.verifies S.Signer.algorithm S.Signer.loads) next.now private.now
+        (keys (S.Holder.held suite.old) (S.Holder.faults suite.old)) (keys (S.Holder.held suite.new) (S.Holder.faults suite.new))
+        (streams (I.Channel.left input.old) (I.Channel.read_faults input.old)
+        (O.Channel.written output.old) (O.Channel.write_faults output.old))
+        (streams (I.Channel.left input.new) (I.Channel.read_faults input.new)
+        (O.Channel.written output.new) (O.Channel.write_faults output.new)) result }
+    ensures input_written { I.Channel.written input.new ≡ I.Channel.written input.old }
+    ensures input_write_faults { I.Channel.write_faults input.new ≡ I.Channel.write_faults input.old }
+    ensures output_left { O.Channel.left output.new ≡ O.Channel.left output.old }
+    ensures output_read_faults { O.Channel.read_faults output.new ≡ O.Channel.read_faults output.old }
+{
+    match suite.load(alloc, private) {
+        Ok(_key) => extend_input(alloc, next, input, output, suite),
+        Err(fault) => end_unloaded(output, fault),
+    }
+}
+
+/// Writes the last line for a private key that is not loaded, and says how the command ended.
+fn end_unloaded<O: Sink>(output: &mut O, fault: SuiteFault) -> Status
+    ensures unloaded { Unloaded fault (O.Channel.written output.old) (O.Channel.write_faults output.old)
+        (O.Channel.written output.new) (O.Channel.write_faults output.new) result }
+    ensures same_left { O.Channel.left output.new ≡ O.Channel.left output.old }
+    ensures same_read_faults { O.Channel.read_faults output.new ≡ O.Channel.read_faults output.old }
+{
+    match fault {
+        SuiteFault::NoAlgorithm => {
+            end_with(output, b"fault words\n");
+            Status::Words
+        }
+        SuiteFault::Failed => {
+            end_with(output, b"fault signer\n");
+            Status::Outside
+        }
+        SuiteFault::NoMemory => Status::NoMemory,
+    }
+}
+
+fn extend_input<I: Source, O: Sink, S: Suite>(
+    alloc: Global,
+    next: &PublicKey,
+    input: &mut I,
+    output: &mut O,
+    suite: &mut S,
+) -> Status
+    ensures ends { EntryEnds (signing S.Verifier.verifies S.Signer.algorithm S.Signer.loads)
+        (S.Holder.held suite.old) next.now (S.Holder.faults suite.old) (S.Holder.faults suite.new)
+        (streams (I.Channel.left input.old) (I.Channel.read_faults input.old)
+        (O.Channel.written output.old) (O.Channel.write_faults output.old))
+        (streams (I.Channel.left input.new) (I.Channel.read_faults input.new)
+        (O.Channel.written output.new) (O.Channel.write_faults output.new)) result }
+    ensures held { S.Holder.held suite.new ≡ S.Holder.held suite.old }
+    ensures input_written { I.Channel.written input.new ≡ I.Channel.written input.old }
+    ensures input_write_faults { I.Channel.write_faults input.new ≡ I.Channel.write_faults input.old }
+    ensures output_left { O.Channel.left output.new ≡ O.Channel.left output.old }
+    ensures output_read_faults { O.Channel.read_faults output.new ≡ O.Channel.read_faults output.old }
+{
+    match read_input(alloc, input) {
+        Ok(bytes) => {
+            let found = extend_bytes(alloc, next, suite, bytes.as_slice());
+            end_found(output, found)
+        }
+        Err(fault) => end_unread(output, fault),
+    }
+}
+
+fn extend_bytes<S: Suite>(
+    alloc: Global,
+    next: &PublicKey,
+    suite: &mut S,
+    bytes: &[u8],
+) -> Result<Told, NoMemory>
+    ensures told { IfOk result (Extends S.Verifier.verifies S.Signer.algorithm (S.Holder.held suite.old) next.now
+        (S.Holder.faults suite.old) (S.Holder.faults suite.new) bytes.now) }
+    ensures memory { IfErr result (λ _. (S.Holder.faults suite.new ≡ S.Holder.faults suite.old)
+        ⊎ SuiteRises (S.Holder.faults suite.old) (S.Holder.faults suite.new)) }
+    ensures held { S.Holder.held suite.new ≡ S.Holder.held suite.old }
+{
+    match extend_file(alloc, suite, bytes, next) {
+        Ok(longer) => Ok(Told::Text(longer)),
+        Err(fault) => refused(alloc, fault),
+    }
+}
