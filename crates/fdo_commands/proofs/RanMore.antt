@@ -12,7 +12,7 @@ use Rattle.fdo_commands.proofs.TookMore.{took_nothing}
 
 pub nothing_done : (signs : Signing) (command : Command) (o : Outside) → Ran signs command o o status.NoMemory
 nothing_done signs StepRendezvous o =
-    (([], took_nothing o.streams.left, refl, nothing_answered RvStep RvGivesUp (record { random = o.random }) [] o.streams.written o.streams.write_faults), refl)
+    (([], took_nothing o.streams.left, refl, nothing_answered RvStep RvGivesUp (record { random = o.random }) [] o.streams.written o.streams.write_faults), refl, λ is. absurd (cc is))
 nothing_done signs VoucherShow o = (([], took_nothing o.streams.left, refl, refl, refl), refl, refl)
 nothing_done signs VoucherCheck o = (([], took_nothing o.streams.left, refl, refl, refl), refl, refl)
 nothing_done signs (VoucherExtend next private) o = (inl (refl, refl), refl)

@@ -18,6 +18,10 @@ voucher_check = codes "voucher" ∷ codes "check" ∷ []
 abbrev pub voucher_extend : List ℕ → List ℕ → List (List ℕ)
 voucher_extend key private = codes "voucher" ∷ codes "extend" ∷ key ∷ private ∷ []
 
+-- the words are `voucher extend` with two words more
+abbrev pub IsExtendForm : List (List ℕ) → Type 0
+IsExtendForm words = (key : List ℕ) × (private : List ℕ) × (words ≡ voucher_extend key private)
+
 -- the words say the next owner's key, which is of the form, and the private bytes of the last one's
 pub record IsExtend (words : List (List ℕ)) (next : PublicKey) (private : List ℕ) : Type 0 where
   pub key_word : List ℕ

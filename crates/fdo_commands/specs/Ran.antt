@@ -1,7 +1,9 @@
 -- What a command did to the objects of the outside.
-use Rattle.std.specs.Prelude.{◌≡◌}
+use Rattle.std.specs.Prelude.{◌≡◌, ℕ, List}
+use Rattle.fdo_ports.specs.Count.{Rises}
 use Rattle.rendezvous.specs.RvState.{RvGivesUp}
 use Rattle.rendezvous.specs.RvStep.{RvStep}
+use Rattle.fdo_commands.specs.Commands.{IsExtendForm}
 use Rattle.fdo_commands.specs.Ending.{Ends}
 use Rattle.fdo_commands.specs.Extending.{ExtendEnds}
 use Rattle.fdo_commands.specs.Outside.{Outside, RanNone, Signing}
@@ -16,7 +18,7 @@ use Rattle.fdo_commands.specs.declared.status.Status.TheVariants as status
 abbrev pub Ran : Signing → Command → Outside → Outside → Status → Type 0
 Ran signs StepRendezvous before after ending =
     Ends RvStep RvGivesUp (record { random = before.random }) (record { random = after.random }) before.streams after.streams ending
-    × (after.suite ≡ before.suite)
+    × (after.suite ≡ before.suite) × (ending ≡ status.Outside → Rises before.random.faults after.random.faults)
 Ran signs VoucherShow before after ending =
     TextEnds Shows before.streams after.streams ending × (after.suite ≡ before.suite) × (after.random ≡ before.random)
 Ran signs VoucherCheck before after ending =
@@ -24,8 +26,9 @@ Ran signs VoucherCheck before after ending =
 Ran signs (VoucherExtend next private) before after ending =
     ExtendEnds signs next private before.suite after.suite before.streams after.streams ending × (after.random ≡ before.random)
 
--- the words name no command; memory may run out before that is known, and nothing is done then
-abbrev pub RanUnnamed : Outside → Outside → Status → Type 0
-RanUnnamed before after status.Words = RanNone before after
-RanUnnamed before after status.NoMemory = after ≡ before
-RanUnnamed before after _ = ⊥
+-- the words name no command; reading the two words behind `voucher extend` takes memory, which may run out, and nothing is
+-- done then
+abbrev pub RanUnnamed : List (List ℕ) → Outside → Outside → Status → Type 0
+RanUnnamed words before after status.Words = RanNone before after
+RanUnnamed words before after status.NoMemory = IsExtendForm words × (after ≡ before)
+RanUnnamed words before after _ = ⊥

@@ -1,4 +1,4 @@
-ghost use Rattle.std.specs.Prelude.{◌≡◌, ◌↔◌, IsTrue, IfOk};
+ghost use Rattle.std.specs.Prelude.{◌≡◌, ◌↔◌, IsTrue, IfOk, IfErr};
 
 use crate::key_words::{read_bytes, read_key_word};
 use cbor_core::{Blob, NoMemory, Text};
@@ -19,12 +19,14 @@ pub enum Command {
     VoucherExtend(PublicKey, Blob),
 }
 
-ghost use Rattle.fdo_commands.specs.Commands.{Finds, FindsExtend, step_rendezvous, voucher_check, voucher_show};
+ghost use Rattle.fdo_commands.specs.Commands.{Finds, FindsExtend, IsExtendForm, step_rendezvous, voucher_check, voucher_show};
 
 impl Command {
-    /// The command that the words name, or None where they name none.
+    /// The command that the words name, or None where they name none. Only `voucher extend` with two words more takes
+    /// memory.
     pub fn of(alloc: Global, words: &[Text]) -> Result<Option<Command>, NoMemory>
-        ensures { IfOk result (Finds words.now) }
+        ensures found { IfOk result (Finds words.now) }
+        ensures no_memory { IfErr result (λ _. IsExtendForm words.now) }
     {
         if is_step_rendezvous(words) {
             return Ok(Some(Command::StepRendezvous));
@@ -68,7 +70,8 @@ fn is_voucher_check(words: &[Text]) -> bool
 
 /// The command `voucher extend` with its two words, or None where the words are of another form.
 fn voucher_extend(alloc: Global, words: &[Text]) -> Result<Option<Command>, NoMemory>
-    ensures { IfOk result (FindsExtend words.now) }
+    ensures found { IfOk result (FindsExtend words.now) }
+    ensures no_memory { IfErr result (λ _. IsExtendForm words.now) }
 {
     match words {
         [voucher, extend, key, private] => {

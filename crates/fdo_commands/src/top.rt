@@ -29,7 +29,7 @@ pub fn fdo<I: Source, O: Sink, S: Suite, N: Random>(
     random: &mut N,
 ) -> Status
     // Words that name no command have their last line, and nothing else is done.
-    ensures unnamed { ((command : Command) → Names words.now command → ⊥) → RanUnnamed
+    ensures unnamed { ((command : Command) → Names words.now command → ⊥) → RanUnnamed words.now
         (outside (I.Channel.left input.old) (I.Channel.read_faults input.old)
         (O.Channel.written output.old) (O.Channel.write_faults output.old)
         (S.Holder.held suite.old) (S.Holder.faults suite.old) (N.draws random.old) (N.faults random.old))

@@ -26,7 +26,7 @@ RanWords signs (Some word) words before after ending =
     × (after.streams.left ≡ before.streams.left) × (after.streams.read_faults ≡ before.streams.read_faults)
     × (after.suite ≡ before.suite) × (after.random ≡ before.random)
 RanWords signs None words before after ending =
-    (((command : Command) → Names words command → ⊥) → RanUnnamed before after ending)
+    (((command : Command) → Names words command → ⊥) → RanUnnamed words before after ending)
     × (ending ≡ status.Words → (command : Command) → Names words command → Unloadable signs.loads command)
     × ((command : Command) → Names words command → Ran signs command before after ending)
 

@@ -6,7 +6,7 @@ mod vectors;
 
 #[cfg(test)]
 mod tests {
-    use crate::vectors::{HASHES, HMACS, LENGTHS, SESSIONS};
+    use crate::vectors::{HASHES, HMACS, KINDS, LENGTHS, SESSIONS};
     use hash_hmac::{
         HMAC_SHA256, HMAC_SHA384, Hash, SHA256, SHA384, hash_of, hmac_of, length_of, session_key,
     };
@@ -92,24 +92,7 @@ mod tests {
 
     #[test]
     fn kinds(rt: HostRuntime) -> Result<(), Fail> {
-        // the kind, its length, and whether it is that of a hash and that of an HMAC
-        let rows = [
-            (-16, Some(32), true, false),
-            (-43, Some(48), true, false),
-            (5, Some(32), false, true),
-            (6, Some(48), false, true),
-            (0, None, false, false),
-            (16, None, false, false),
-            (43, None, false, false),
-            (-5, None, false, false),
-            (-6, None, false, false),
-            (-44, None, false, false),
-            (4, None, false, false),
-            (7, None, false, false),
-            (i64::MIN, None, false, false),
-            (i64::MAX, None, false, false),
-        ];
-        for (kind, length, hashes, macs) in rows {
+        for (kind, length, hashes, macs) in KINDS {
             assert_eq!(rt; length_of(kind), length);
             assert_eq!(rt; hash_of(kind, b"a", b"bc").is_some(), hashes);
             assert_eq!(rt; hmac_of(kind, b"a", b"bc").is_some(), macs);

@@ -259,3 +259,21 @@ pub const SESSIONS: [(&str, u16, &str); 10] = [
         "fd47a5a94f996fa5fdda9438df7ec52799c31965091c090d0fc3f087da1d1f62",
     ),
 ];
+
+/// The kind, its length, and whether it is that of a hash and that of an HMAC.
+pub const KINDS: [(i64, Option<u8>, bool, bool); 14] = [
+    (-16, Some(32), true, false),
+    (-43, Some(48), true, false),
+    (5, Some(32), false, true),
+    (6, Some(48), false, true),
+    (0, None, false, false),
+    (16, None, false, false),
+    (43, None, false, false),
+    (-5, None, false, false),
+    (-6, None, false, false),
+    (-44, None, false, false),
+    (4, None, false, false),
+    (7, None, false, false),
+    (i64::MIN, None, false, false),
+    (i64::MAX, None, false, false),
+];
