@@ -12,43 +12,39 @@ mod tests {
     };
     use std::test::Fail;
 
-    /// What a hash holds, in one line: its kind, its length and all of its 48 bytes.
-    fn shown(rt: &HostRuntime, hash: Option<Hash>) -> Result<String, Fail> {
+    /// Whether a hash is of the kind, has the bytes that a hex text spells, and zeros past them up to 48 bytes.
+    fn holds(rt: &HostRuntime, hash: Option<Hash>, kind: i64, value: &str) -> Result<bool, Fail> {
         let Some(hash) = hash else {
-            return Ok(String::from_str(rt.alloc(), "none")?);
+            return Ok(false);
         };
         let bytes = hex::encode(rt.alloc(), hash.bytes.as_slice())?;
-        Ok(format!(in rt.alloc(); "{} {} {bytes}", hash.kind, hash.len)?)
-    }
-
-    /// The line of a hash with the bytes that a hex text spells, and zeros past them.
-    fn expected(rt: &HostRuntime, kind: i64, value: &str) -> Result<String, Fail> {
-        Ok(format!(in rt.alloc(); "{kind} {} {value:0<96}", value.len() / 2)?)
+        let wanted = format!(in rt.alloc(); "{value:0<96}")?;
+        Ok(hash.kind == kind
+            && hash.len as usize == value.len() / 2
+            && bytes.as_str() == wanted.as_str())
     }
 
     #[test]
     fn hashes_of_texts(rt: HostRuntime) -> Result<(), Fail> {
-        for (first, second, short, long) in HASHES {
+        for (first, second, short, long) in &HASHES {
             let (first, second) = (first.as_bytes(), second.as_bytes());
-            for (kind, value) in [(SHA256, short), (SHA384, long)] {
-                let line = shown(&rt, hash_of(kind, first, second))?;
-                let wanted = expected(&rt, kind, value)?;
-                assert_eq!(rt; line.as_str(), wanted.as_str());
-            }
+            let hash = hash_of(SHA256, first, second);
+            assert!(rt; holds(&rt, hash, SHA256, short)?, "{short}");
+            let hash = hash_of(SHA384, first, second);
+            assert!(rt; holds(&rt, hash, SHA384, long)?, "{long}");
         }
         Ok(())
     }
 
     #[test]
     fn hmacs_of_rfc_4231(rt: HostRuntime) -> Result<(), Fail> {
-        for (secret, text, short, long) in HMACS {
+        for (secret, text, short, long) in &HMACS {
             let secret = hex::decode(rt.alloc(), secret)?;
             let text = hex::decode(rt.alloc(), text)?;
-            for (kind, value) in [(HMAC_SHA256, short), (HMAC_SHA384, long)] {
-                let line = shown(&rt, hmac_of(kind, secret.as_slice(), text.as_slice()))?;
-                let wanted = expected(&rt, kind, value)?;
-                assert_eq!(rt; line.as_str(), wanted.as_str());
-            }
+            let mac = hmac_of(HMAC_SHA256, secret.as_slice(), text.as_slice());
+            assert!(rt; holds(&rt, mac, HMAC_SHA256, short)?, "{short}");
+            let mac = hmac_of(HMAC_SHA384, secret.as_slice(), text.as_slice());
+            assert!(rt; holds(&rt, mac, HMAC_SHA384, long)?, "{long}");
         }
         Ok(())
     }
@@ -59,43 +55,40 @@ mod tests {
         for i in 0..257u32 {
             bytes.push((i % 251) as u8)?;
         }
-        for (length, hash_256, hash_384, hmac_256, hmac_384) in LENGTHS {
-            let text = bytes.as_slice().split_at(length.min(bytes.len())).0;
-            let (first, second) = text.split_at(length.min(text.len()) / 3);
-            let lines = [
-                (hash_of(SHA256, first, second), SHA256, hash_256),
-                (hash_of(SHA384, first, second), SHA384, hash_384),
-                (hmac_of(HMAC_SHA256, text, text), HMAC_SHA256, hmac_256),
-                (hmac_of(HMAC_SHA384, text, text), HMAC_SHA384, hmac_384),
-            ];
-            for (hash, kind, value) in lines {
-                let line = shown(&rt, hash)?;
-                let wanted = expected(&rt, kind, value)?;
-                assert_eq!(rt; line.as_str(), wanted.as_str());
-            }
+        for (length, hash_256, hash_384, hmac_256, hmac_384) in &LENGTHS {
+            let text = bytes.as_slice().split_at(bytes.len().min(*length)).0;
+            let (first, second) = text.split_at(text.len() / 3);
+            let hash = hash_of(SHA256, first, second);
+            assert!(rt; holds(&rt, hash, SHA256, hash_256)?, "{length}");
+            let hash = hash_of(SHA384, first, second);
+            assert!(rt; holds(&rt, hash, SHA384, hash_384)?, "{length}");
+            let mac = hmac_of(HMAC_SHA256, text, text);
+            assert!(rt; holds(&rt, mac, HMAC_SHA256, hmac_256)?, "{length}");
+            let mac = hmac_of(HMAC_SHA384, text, text);
+            assert!(rt; holds(&rt, mac, HMAC_SHA384, hmac_384)?, "{length}");
         }
         Ok(())
     }
 
     #[test]
     fn session_keys(rt: HostRuntime) -> Result<(), Fail> {
-        for (shared, bits, wanted) in SESSIONS {
+        for (shared, bits, wanted) in &SESSIONS {
             let shared = hex::decode(rt.alloc(), shared)?;
             // the prover reads no table
-            let bits = if bits == 128 { 128 } else { 256 };
+            let bits = if *bits == 128 { 128 } else { 256 };
             let key = session_key(shared.as_slice(), bits);
             let key = hex::encode(rt.alloc(), key.as_slice())?;
-            assert_eq!(rt; key.as_str(), wanted);
+            assert_eq!(rt; key.as_str(), *wanted);
         }
         Ok(())
     }
 
     #[test]
     fn kinds(rt: HostRuntime) -> Result<(), Fail> {
-        for (kind, length, hashes, macs) in KINDS {
-            assert_eq!(rt; length_of(kind), length);
-            assert_eq!(rt; hash_of(kind, b"a", b"bc").is_some(), hashes);
-            assert_eq!(rt; hmac_of(kind, b"a", b"bc").is_some(), macs);
+        for (kind, length, hashes, macs) in &KINDS {
+            assert_eq!(rt; length_of(*kind), *length);
+            assert_eq!(rt; hash_of(*kind, b"a", b"bc").is_some(), *hashes);
+            assert_eq!(rt; hmac_of(*kind, b"a", b"bc").is_some(), *macs);
         }
         Ok(())
     }

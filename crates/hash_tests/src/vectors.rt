@@ -1,5 +1,5 @@
 /// RFC 4231, cases 1 to 4, 6 and 7: the key, the data, HMAC-SHA-256 and HMAC-SHA-384.
-pub const HMACS: [(&str, &str, &str, &str); 6] = [
+pub static HMACS: [(&str, &str, &str, &str); 6] = [
     (
         "0b0b0b0b0b0b0b0b0b0b0b0b0b0b0b0b0b0b0b0b",
         "4869205468657265",
@@ -39,7 +39,7 @@ pub const HMACS: [(&str, &str, &str, &str); 6] = [
 ];
 
 /// FIPS 180-4's examples, whole and in two parts: the parts, SHA-256 and SHA-384.
-pub const HASHES: [(&str, &str, &str, &str); 9] = [
+pub static HASHES: [(&str, &str, &str, &str); 9] = [
     (
         "",
         "",
@@ -98,7 +98,7 @@ pub const HASHES: [(&str, &str, &str, &str); 9] = [
 
 /// Bytes 0, 1 and so on modulo 251, as many as the first number: SHA-256, SHA-384, and HMAC-SHA-256 and
 /// HMAC-SHA-384 of these bytes under themselves.
-pub const LENGTHS: [(usize, &str, &str, &str, &str); 15] = [
+pub static LENGTHS: [(usize, &str, &str, &str, &str); 15] = [
     (
         0,
         "e3b0c44298fc1c149afbf4c8996fb92427ae41e4649b934ca495991b7852b855",
@@ -207,7 +207,7 @@ pub const LENGTHS: [(usize, &str, &str, &str, &str); 15] = [
 ];
 
 /// The shared secret, the bits, and the session key.
-pub const SESSIONS: [(&str, u16, &str); 10] = [
+pub static SESSIONS: [(&str, u16, &str); 10] = [
     (
         "",
         128,
@@ -261,7 +261,7 @@ pub const SESSIONS: [(&str, u16, &str); 10] = [
 ];
 
 /// The kind, its length, and whether it is that of a hash and that of an HMAC.
-pub const KINDS: [(i64, Option<u8>, bool, bool); 14] = [
+pub static KINDS: [(i64, Option<u8>, bool, bool); 14] = [
     (-16, Some(32), true, false),
     (-43, Some(48), true, false),
     (5, Some(32), false, true),
