@@ -3,7 +3,7 @@
 
 #[cfg(test)]
 mod tests {
-    use cbor_core::{Cursor, Part, read_wire, write_det};
+    use cbor_core::{CborFault, Cursor, Item, Part, read_wire, write_det};
     use std::test::Fail;
 
     /// What a cursor shows of an item, in one line: its place, major type, number, count, content, chunks and bytes.
@@ -83,6 +83,9 @@ mod tests {
             ("a20000180000", "refused"),
             ("a3010000000100", "refused"),
             ("bf810000810000ff", "refused"),
+            ("", "refused"),
+            ("1c", "refused"),
+            ("f93c00", "refused"),
         ];
         for (input, answer) in rows {
             let line = lines(&rt, input)?;
@@ -133,10 +136,42 @@ mod tests {
             ("c24103", "1 03;"),
             ("80", ""),
             ("82", "refused"),
+            ("", "refused"),
+            ("4200", "refused"),
+            ("a200000000", "refused"),
+            ("9fc1ff", "refused"),
         ];
         for (input, answer) in rows {
             let line = parts(&rt, input)?;
             assert_eq!(rt; line.as_str(), answer);
+        }
+        Ok(())
+    }
+
+    /// Simple values 24 to 31 have no spelling: what is written of one is not read.
+    #[test]
+    fn simple_values_have_spellings(rt: HostRuntime) -> Result<(), Fail> {
+        let rows = [
+            (0, true),
+            (20, true),
+            (23, true),
+            (24, false),
+            (25, false),
+            (27, false),
+            (30, false),
+            (31, false),
+            (32, true),
+            (255, true),
+        ];
+        for (number, has_one) in rows {
+            let Ok(blob) = write_det(rt.alloc(), &Item::Simple(number)) else {
+                return Err(Fail::new("no answer"));
+            };
+            match read_wire(rt.alloc(), blob.as_list()) {
+                Ok((Item::Simple(read), _taken)) => assert!(rt; has_one && read == number),
+                Err(CborFault::Malformed(0)) => assert!(rt; !has_one),
+                _ => return Err(Fail::new("another answer")),
+            }
         }
         Ok(())
     }

@@ -1,31 +1,47 @@
 //! Which credentials match a voucher.
-use crate::voucher_rows::FIVE;
+use crate::voucher_rows::{FIVE, NO_ENTRIES, STRONG};
 use cbor_core::{Blob, Text};
 use hash_hmac::{Hash, hash_of};
 use voucher_chain::{Credential, Voucher, matches, read_voucher};
 
-/// The kind of HMAC of a credential, the bits that are changed of its secret, its GUID and its key hash, and whether it
-/// still matches the voucher of five entries.
-const CREDENTIALS: [(u8, u8, u8, u8, bool); 5] = [
-    (5, 0, 0, 0, true),
-    (6, 0, 0, 0, false),
-    (5, 1, 0, 0, false),
-    (5, 0, 1, 0, false),
-    (5, 0, 0, 1, false),
+/// The kind of HMAC of a credential, the kind of its key hash, the bits that are changed of its secret, its GUID and its
+/// key hash, and whether it still matches its voucher.
+type Row = (u8, i64, u8, u8, u8, bool);
+
+/// For a voucher of SHA-256.
+const CREDENTIALS: [Row; 8] = [
+    (5, -16, 0, 0, 0, true),
+    (5, -43, 0, 0, 0, true),
+    (6, -16, 0, 0, 0, false),
+    (0, -16, 0, 0, 0, false),
+    (5, -16, 1, 0, 0, false),
+    (5, -16, 0, 1, 0, false),
+    (5, -16, 0, 0, 1, false),
+    (5, -43, 0, 0, 1, false),
+];
+
+/// For one of SHA-384.
+const STRONG_CREDENTIALS: [Row; 6] = [
+    (6, -43, 0, 0, 0, true),
+    (6, -16, 0, 0, 0, true),
+    (5, -43, 0, 0, 0, false),
+    (6, -43, 1, 0, 0, false),
+    (6, -43, 0, 1, 0, false),
+    (6, -43, 0, 0, 1, false),
 ];
 
 const SECRET: [u8; 32] =
     *b"laboratory\x00\x00\x00\x00\x00\x00\x00\x00\x00\x00\x00\x00\x00\x00\x00\x00\x00\x00\x00\x00\x00\x00";
 
-/// The hash of the header's key, in whose last byte bits are changed.
-fn key_hash(voucher: &Voucher, bits: u8) -> Option<Hash> {
-    match hash_of(-16, voucher.header.key_raw.as_list(), b"") {
-        Some(hash) => Some(with_last(hash, bits)),
+/// The hash of the header's key, of a kind, in whose byte 31 bits are changed.
+fn key_hash(voucher: &Voucher, kind: i64, bits: u8) -> Option<Hash> {
+    match hash_of(kind, voucher.header.key_raw.as_list(), b"") {
+        Some(hash) => Some(with_byte(hash, bits)),
         None => None,
     }
 }
 
-fn with_last(hash: Hash, bits: u8) -> Hash {
+fn with_byte(hash: Hash, bits: u8) -> Hash {
     let mut hash = hash;
     hash.bytes[31] = hash.bytes[31] ^ bits;
     hash
@@ -43,14 +59,14 @@ fn secret(bits: u8) -> [u8; 32] {
     secret
 }
 
-fn is_matched(rt: &HostRuntime, voucher: &Voucher, row: &(u8, u8, u8, u8, bool)) -> bool {
-    match key_hash(voucher, row.3) {
+fn is_matched(rt: &HostRuntime, voucher: &Voucher, row: &Row) -> bool {
+    match key_hash(voucher, row.1, row.4) {
         Some(hash) => has_credential(
             rt,
             voucher,
             row.0,
-            secret(row.1),
-            guid(voucher, row.2),
+            secret(row.2),
+            guid(voucher, row.3),
             hash,
         ),
         None => false,
@@ -81,25 +97,25 @@ fn has_credential(
     }
 }
 
-fn are_matched(rt: &HostRuntime, voucher: &Voucher) -> bool {
-    for row in &CREDENTIALS {
-        if is_matched(rt, voucher, row) != row.4 {
+fn are_matched(rt: &HostRuntime, voucher: &Voucher, rows: &[Row]) -> bool {
+    for row in rows {
+        if is_matched(rt, voucher, row) != row.5 {
             return false;
         }
     }
     true
 }
 
-fn are_matched_by(rt: &HostRuntime, bytes: &[u8]) -> bool {
+fn are_matched_by(rt: &HostRuntime, bytes: &[u8], rows: &[Row]) -> bool {
     match read_voucher(rt.alloc(), bytes) {
-        Ok(voucher) => are_matched(rt, &voucher),
+        Ok(voucher) => are_matched(rt, &voucher, rows),
         Err(_) => false,
     }
 }
 
-fn are_matched_of(rt: &HostRuntime, digits: &str) -> bool {
+fn are_matched_of(rt: &HostRuntime, digits: &str, rows: &[Row]) -> bool {
     match hex::decode(rt.alloc(), digits) {
-        Ok(bytes) => are_matched_by(rt, bytes.as_slice()),
+        Ok(bytes) => are_matched_by(rt, bytes.as_slice(), rows),
         Err(_) => false,
     }
 }
@@ -107,5 +123,7 @@ fn are_matched_of(rt: &HostRuntime, digits: &str) -> bool {
 /// The credential of a device matches its voucher, and one that differs in any part does not.
 #[test]
 fn a_credential_matches_its_voucher(rt: HostRuntime) {
-    assert!(rt; are_matched_of(&rt, FIVE));
+    assert!(rt; are_matched_of(&rt, FIVE, &CREDENTIALS));
+    assert!(rt; are_matched_of(&rt, NO_ENTRIES, &CREDENTIALS));
+    assert!(rt; are_matched_of(&rt, STRONG, &STRONG_CREDENTIALS));
 }

@@ -195,7 +195,7 @@ fn a_file_is_extended(rt: HostRuntime) {
 
 // ---- refusals
 
-const REFUSALS: [(ChainFault, &str); 8] = [
+const REFUSALS: [(ChainFault, &str); 10] = [
     (ChainFault::BadCertHash, "refused badcerthash\n"),
     (ChainFault::BadPrevHash(1), "refused badprevhash 1\n"),
     (ChainFault::BadInfoHash(0), "refused badinfohash 0\n"),
@@ -204,6 +204,8 @@ const REFUSALS: [(ChainFault, &str); 8] = [
     (ChainFault::TooLong, "refused toolong\n"),
     (ChainFault::Failed, "refused failed\n"),
     (ChainFault::BadShape(0), ""),
+    (ChainFault::NoMatch, ""),
+    (ChainFault::NoMemory, ""),
 ];
 
 /// Whether a refusal has this text; where it is empty, none.

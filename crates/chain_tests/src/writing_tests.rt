@@ -1,7 +1,7 @@
 //! Vouchers and headers that are written, and the strengths of keys.
 use crate::given::{key, key_of};
 use crate::reading_tests::is_header;
-use crate::voucher_rows::{NO_ENTRIES, OTHER_RV, REPLACED};
+use crate::voucher_rows::{NO_ENTRIES, REPLACED, REPLACED_AFTER, REPLACED_BEFORE};
 use cbor_core::{Item, NoMemory, read_wire};
 use hash_hmac::HMac;
 use key_codec::{PublicKey, X5Chain};
@@ -142,20 +142,45 @@ fn is_replaced_of(rt: &HostRuntime, digits: &str, rv: &str, wanted: &str) -> boo
     }
 }
 
+fn is_replaced_so(rt: &HostRuntime, rv: &str, written: &str) -> bool {
+    match format!(in rt.alloc(); "{REPLACED_BEFORE}{written}{REPLACED_AFTER}") {
+        Ok(wanted) => is_replaced_of(rt, NO_ENTRIES, rv, wanted.as_str()),
+        Err(_) => false,
+    }
+}
+
+/// The number of the first row that is not written so.
+fn first_unreplaced(rt: &HostRuntime) -> Option<usize> {
+    let mut index: usize = 0;
+    for (rv, written) in &REPLACED {
+        if !is_replaced_so(rt, rv, written) {
+            return Some(index);
+        }
+        index = index.saturating_add(1);
+    }
+    None
+}
+
 /// A header gets another GUID, other rendezvous information and another key, and keeps the rest.
 #[test]
 fn a_header_is_replaced(rt: HostRuntime) {
-    assert!(rt; is_replaced_of(&rt, NO_ENTRIES, OTHER_RV, REPLACED));
+    assert_eq!(rt; first_unreplaced(&rt), None);
 }
 
 // ---- strengths
 
 /// Types of keys, the bytes of their bodies, and their strengths.
-const STRENGTHS: [(i64, &[u8], u16); 4] = [
+const STRENGTHS: [(i64, &[u8], u16); 10] = [
     (200, b"0123456789abcdef", 256),
     (200, b"0123456789abcdefg", 384),
     (11, b"\x01", 384),
     (10, b"0123456789abcdefg", 256),
+    (200, b"\x01", 256),
+    (200, b"0123456789abcdef0123456789abcdef", 384),
+    (11, b"", 384),
+    (11, b"0123456789abcdefg", 384),
+    (1, b"0123456789abcdefg", 256),
+    (201, b"0123456789abcdefg", 256),
 ];
 
 fn has_strength(rt: &HostRuntime, kind: i64, bytes: &[u8], bits: u16) -> bool {

@@ -1,5 +1,6 @@
 //! What no clause says of the objects over std: which bytes they pass on, and what a failed call answers.
 use crate::answers::answer;
+use crate::help::HELP;
 use crate::own_word::OwnWord;
 use crate::std_sink::StdSink;
 use crate::std_source::StdSource;
@@ -10,6 +11,7 @@ use fdo_ports::{Failed, ListRandom, MemorySink, PlainSource, Random, Sink, Sourc
 use std::io;
 use std::io::{Read, Write};
 use std::random::RandomSource;
+use std::test::Fail;
 use suite_port::LabSuite;
 
 /// An object on which each call fails.
@@ -87,32 +89,49 @@ fn draws_differ(rt: HostRuntime) {
     assert_eq!(rt; broken.draw16(), Err(Failed));
 }
 
-#[test]
-fn own_words_stand_alone(rt: HostRuntime) {
+/// Words that one space each parts.
+fn words_of(rt: &HostRuntime, text: &str) -> Result<Vec<Text>, Fail> {
     let mut words = Vec::new(rt.alloc());
-    assert_eq!(rt; OwnWord::of(words.as_slice()), None);
-    words
-        .push(Text::from_str(rt.alloc(), "--help").expect(&rt, "memory"))
-        .expect(&rt, "memory");
-    assert_eq!(rt; OwnWord::of(words.as_slice()), Some(OwnWord::Help));
-    words
-        .push(Text::from_str(rt.alloc(), "x").expect(&rt, "memory"))
-        .expect(&rt, "memory");
-    assert_eq!(rt; OwnWord::of(words.as_slice()), None);
+    for word in text.split(' ') {
+        words.push(Text::from_str(rt.alloc(), word)?)?;
+    }
+    Ok(words)
 }
 
 #[test]
-fn version_is_written(rt: HostRuntime) {
-    for (fail, status, written) in [
-        (0, Status::Done, b"fdo 0.1.0\n".as_slice()),
-        (1, Status::Write, b"".as_slice()),
+fn own_words_stand_alone(rt: HostRuntime) -> Result<(), Fail> {
+    let none = Vec::new(rt.alloc());
+    assert_eq!(rt; OwnWord::of(none.as_slice()), None);
+    for (text, own) in [
+        ("--help", Some(OwnWord::Help)),
+        ("--version", Some(OwnWord::Version)),
+        ("", None),
+        ("--help x", None),
+        ("x --help", None),
+        ("--version --version", None),
+        ("--help ", None),
+        ("--HELP", None),
+        ("-h", None),
+        ("voucher --help", None),
     ] {
-        let mut words = Vec::new(rt.alloc());
-        words
-            .push(Text::from_str(rt.alloc(), "--version").expect(&rt, "memory"))
-            .expect(&rt, "memory");
+        let words = words_of(&rt, text)?;
+        assert_eq!(rt; OwnWord::of(words.as_slice()), own, "{text}");
+    }
+    Ok(())
+}
+
+#[test]
+fn own_texts_are_written(rt: HostRuntime) -> Result<(), Fail> {
+    for (word, fail, status, written) in [
+        ("--version", 0, Status::Done, b"fdo 0.1.0\n".as_slice()),
+        ("--version", 1, Status::Write, b"".as_slice()),
+        ("--help", 0, Status::Done, HELP.as_bytes()),
+        ("--help", 1, Status::Write, b"".as_slice()),
+        ("--help x", 0, Status::Words, b"fault words\n".as_slice()),
+    ] {
+        let words = words_of(&rt, word)?;
         let mut fails = Vec::new(rt.alloc());
-        fails.push(fail).expect(&rt, "memory");
+        fails.push(fail)?;
         let mut input = PlainSource::new(Vec::new(rt.alloc()));
         let mut output = MemorySink::new(Vec::new(rt.alloc()), fails);
         let mut suite = LabSuite::new(Vec::new(rt.alloc()));
@@ -128,4 +147,5 @@ fn version_is_written(rt: HostRuntime) {
         assert_eq!(rt; ending, status);
         assert_eq!(rt; output.written(), written);
     }
+    Ok(())
 }

@@ -28,6 +28,18 @@ fn tokens_have_the_url_safe_alphabet(rt: HostRuntime) -> Result<(), NoMemory> {
     );
     let copy = dashes.copy()?;
     assert_eq!(rt; copy.as_list(), dashes.as_list());
+    let rows: [(&[u8; 16], &[u8]); 3] = [
+        (&[0; 16], b"Bearer AAAAAAAAAAAAAAAAAAAAAA"),
+        (b">>>>>>>>>>>>>>>>", b"Bearer Pj4-Pj4-Pj4-Pj4-Pj4-Pg"),
+        (
+            b"\x00\x10\x83\x10Q\x87 \x92\x8b0\xd3\x8fA\x14\x93Q",
+            b"Bearer ABCDEFGHIJKLMNOPQRSTUQ",
+        ),
+    ];
+    for (draw, wanted) in rows {
+        let token = token_text(rt.alloc(), draw)?;
+        assert_eq!(rt; token.as_list(), wanted);
+    }
     Ok(())
 }
 
@@ -254,6 +266,77 @@ fn causes_have_codes_and_words(rt: HostRuntime) {
     }
 }
 
+/// A cause, the type of the message that is refused, and the body of the error message.
+type ErrorCase = (Cause, u8, &'static [u8]);
+
+static ERRORS: [ErrorCase; 10] = [
+    (
+        Cause::Token,
+        62,
+        b"\x85\x01\x18\x3e\x6dinvalid token\xf6\x00",
+    ),
+    (
+        Cause::OwnerKey,
+        63,
+        b"\x85\x02\x18\x3f\x6finvalid voucher\xf6\x00",
+    ),
+    (
+        Cause::Nonce,
+        22,
+        b"\x85\x03\x16\x77invalid owner sign body\xf6\x00",
+    ),
+    (
+        Cause::Address(1),
+        22,
+        b"\x85\x04\x16\x6finvalid address\xf6\x00",
+    ),
+    (
+        Cause::GuidDiffers,
+        32,
+        b"\x85\x05\x18\x20\x6cinvalid guid\xf6\x00",
+    ),
+    (
+        Cause::Missing([7; 16]),
+        30,
+        b"\x85\x06\x18\x1e\x69not found\xf6\x00",
+    ),
+    (
+        Cause::Body(3),
+        23,
+        b"\x85\x18\x64\x17\x6cmessage body\xf6\x00",
+    ),
+    (
+        Cause::Nonce,
+        24,
+        b"\x85\x18\x65\x18\x18\x6finvalid message\xf6\x00",
+    ),
+    (
+        Cause::Reuse,
+        65,
+        b"\x85\x18\x66\x18\x41\x70credential reuse\xf6\x00",
+    ),
+    (
+        Cause::Full(4096),
+        255,
+        b"\x85\x19\x01\xf4\x18\xff\x68internal\xf6\x00",
+    ),
+];
+
+#[test]
+fn errors_are_written(rt: HostRuntime) -> Result<(), NoMemory> {
+    for (cause, kind, body) in &ERRORS {
+        // the prover reads no table
+        if cause.code(*kind).is_some() {
+            let error = error_packet(rt.alloc(), cause, *kind, None)?;
+            assert_eq!(rt; error.kind, 255);
+            assert_eq!(rt; error.body.as_list(), *body);
+        } else {
+            assert!(rt; false, "no code");
+        }
+    }
+    Ok(())
+}
+
 #[test]
 fn bodies_are_written(rt: HostRuntime) -> Result<(), NoMemory> {
     let alloc = rt.alloc();
@@ -282,8 +365,11 @@ fn bodies_are_written(rt: HostRuntime) -> Result<(), NoMemory> {
 
 #[test]
 fn numbers_have_one_spelling(rt: HostRuntime) {
-    let cases: [(&[u8], Option<u64>); 9] = [
+    let cases: [(&[u8], Option<u64>); 12] = [
         (b"0", Some(0)),
+        (b"7", Some(7)),
+        (b"20", Some(20)),
+        (b"100", Some(100)),
         (b"255", Some(255)),
         (b"256", None),
         (b"00", None),

@@ -13,7 +13,7 @@ pub use plain_suite::PlainSuite;
 mod tests {
     use crate::laws::{agree, issue_and_read, seal_and_open, sign_and_verify, two_keys};
     use crate::plain_suite::PlainSuite;
-    use crate::vectors::{KEYS, SEALS, SECRET};
+    use crate::vectors::{KEYS, SEALS, SECRET, SECRETS};
     use std::test::Fail;
     use suite_port::{Aead, CertReader, Kex, LabSuite, Signer, SuiteFault, Verifier};
 
@@ -140,6 +140,10 @@ mod tests {
         let (finished, shared) = agree(&mut suite, alloc, b"LAB32", &one, &other)?;
         assert_eq!(rt; hex_of(&rt, finished.as_slice())?.as_str(), SECRET);
         assert_eq!(rt; hex_of(&rt, shared.as_slice())?.as_str(), SECRET);
+        for (one, other, secret) in &SECRETS {
+            let (finished, _) = agree(&mut suite, alloc, b"LAB32", one, other)?;
+            assert_eq!(rt; hex_of(&rt, finished.as_slice())?.as_str(), *secret);
+        }
         let (xa, private) = suite.first(alloc, b"LAB32", &one)?;
         assert!(rt; xa.as_slice() == one.as_slice() && private.as_slice() == one.as_slice());
         assert_eq!(rt; ended(suite.first(alloc, b"LAB3", &one)), "no algorithm");
@@ -274,6 +278,14 @@ mod tests {
             issue_and_read(&mut suite, alloc, b"\x83\x0a\x01\x40")?.as_slice()
                 == b"\x83\x0a\x01\x40".as_slice()
         );
+        for key in [
+            b"\x83".as_slice(),
+            b"\x83\x01\x00\x40",
+            b"\x83\x0b\x02\x81\x41\x01",
+        ] {
+            let read = issue_and_read(&mut suite, alloc, key)?;
+            assert_eq!(rt; read.as_slice(), key);
+        }
         for leaf in [
             "",
             "FDO-LAB-CER",

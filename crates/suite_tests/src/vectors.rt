@@ -1,7 +1,7 @@
 //! Values that Python computed with `hashlib` from what the laboratory suite is said to do.
 
 /// The private bytes, the public bytes, a text and its signature.
-pub(crate) const KEYS: [(&str, &str, &str, &str); 4] = [
+pub(crate) const KEYS: [(&str, &str, &str, &str); 5] = [
     (
         "01",
         "8318c8004101",
@@ -25,6 +25,12 @@ pub(crate) const KEYS: [(&str, &str, &str, &str); 4] = [
         "8318c800582020272e353c434a51585f666d747b828990979ea5acb3bac1c8cfd6dde4ebf2f9",
         "00000000000000000000000000000000000000000000000000000000000000000000000000000000000000000000000000000000000000000000000000000000000000000000000000000000000000000000000000000000000000000000000000000000",
         "5a85f9a54c920cf734b5f0074e7d4e3f0a7af001d2559b1d0886484ede8a047a",
+    ),
+    (
+        "ff00ff00ff00ff00ff00ff00ff00ff00",
+        "8318c80050ff00ff00ff00ff00ff00ff00ff00ff00",
+        "5369676e617475726531",
+        "ff3c1b9301f3f28d5f9453dc6f4661812b5d1c884c7316351239b5a71f2b21dc",
     ),
 ];
 
@@ -76,3 +82,27 @@ pub(crate) const SEALS: [(&str, &str, &str, &str); 7] = [
 
 /// The secret of two ends that drew what the test of it says.
 pub(crate) const SECRET: &str = "94030f1ec212c8ad7d0c36daf5bd96a645ae37f6d1e15ba049d42b17c5bf2ad9";
+
+/// What two ends drew, the first of them the one that began, and their secret.
+pub(crate) const SECRETS: [([u8; 32], [u8; 32], &str); 4] = [
+    (
+        [0; 32],
+        [0; 32],
+        "2288a1684d6d7665285ead6a703f9287065071f52764494faff1e28409e42c0d",
+    ),
+    (
+        [0; 32],
+        [255; 32],
+        "9b46f79aea97e631d987606957397c7d609c6b3ef4121541ce7088f300978765",
+    ),
+    (
+        *b"fedcba9876543210fedcba9876543210",
+        *b"0123456789abcdef0123456789abcdef",
+        "3f30a16fa5fc2bc66d8a9a315f87ddee24729ab0a34d4462695933b7b60ebf47",
+    ),
+    (
+        [1; 32],
+        [2; 32],
+        "ec3d04978738406793772afc82eb40e38cf7dff539010c865ac678bde75e3827",
+    ),
+];

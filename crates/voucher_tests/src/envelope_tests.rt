@@ -4,7 +4,7 @@ ghost use Rattle.std.specs.Prelude.{◌≤◌, length};
 use crate::envelope_rows::{ENCRYPT0, ENCRYPT0_FAULTS, MAC0, MAC0_FAULTS, SIGN1, SIGN1_FAULTS};
 use crate::envelope_values::{
     CUT_TAG, LOOSELY_MACED, LOOSELY_SIGNED, MACED, NO_INNER, OTHER_INNER, OTHER_MAC, SEALED,
-    SEALED_LONG, SEALED_NONE, SIGN1_TEXT, SIGNED, WRONG_HALF,
+    SEALED_LONG, SEALED_NONE, SEALED_TEXTS, SIGN1_TEXT, SIGNED, WRONG_HALF,
 };
 use crate::mute_suite::MuteSuite;
 use cbor_core::{Blob, NoMemory, Pairs, Part, write_det};
@@ -379,8 +379,33 @@ fn what_is_sealed(rt: HostRuntime) -> Result<(), Fail> {
     assert!(rt; seals(&rt, -65538, PLAIN, SEALED)?);
     assert!(rt; seals(&rt, -65539, PLAIN, SEALED_LONG)?);
     assert!(rt; seals(&rt, -65538, b"", SEALED_NONE)?);
-    let refused = refusal(seal(rt.alloc(), &mut lab(&rt), 3, &KEY, &IV, PLAIN));
-    assert_eq!(rt; refused, Some(CoseFault::NoAlgorithm(3)));
+    for alg in [0, 1, 3, -65537, i64::MIN] {
+        let refused = refusal(seal(rt.alloc(), &mut lab(&rt), alg, &KEY, &IV, PLAIN));
+        assert_eq!(rt; refused, Some(CoseFault::NoAlgorithm(alg)));
+    }
+    let mut mute = MuteSuite::new(Vec::new(rt.alloc()));
+    let sealed = seal(rt.alloc(), &mut mute, 1, &KEY, &IV, b"text")?;
+    let wanted = "d08343a10101a1054c7477656c76652062797465734474657874";
+    assert!(rt; is(&rt, sealed.as_list(), wanted)?);
+    Ok(())
+}
+
+#[test]
+fn texts_are_sealed_and_opened(rt: HostRuntime) -> Result<(), Fail> {
+    for (plain, sealed, maced) in SEALED_TEXTS {
+        let plain = bytes_of(&rt, plain)?;
+        // the prover reads no table
+        let plain = plain.as_slice().split_at(plain.len().min(1000)).0;
+        assert!(rt; seals(&rt, -65538, plain, sealed)?);
+        let made = seal_etm(rt.alloc(), &mut lab(&rt), -65539, &KEY, &IV, plain)?;
+        assert!(rt; is(&rt, made.as_list(), maced)?);
+        let bytes = bytes_of(&rt, sealed)?;
+        let opened = open(rt.alloc(), &mut lab(&rt), -65538, &KEY, bytes.as_slice());
+        assert_eq!(rt; is_text(opened, plain), Ok(true));
+        let bytes = bytes_of(&rt, maced)?;
+        let opened = open_etm(rt.alloc(), &mut lab(&rt), -65539, &KEY, bytes.as_slice());
+        assert_eq!(rt; is_text(opened, plain), Ok(true));
+    }
     Ok(())
 }
 
