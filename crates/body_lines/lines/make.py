@@ -427,7 +427,8 @@ def forms():
     yield Form(66, [Slot(hmac), Slot(null)])
     yield Form(66, hash_slots(6, LONG_HASH), "hash", back=[null])
     yield Form(67, [Slot(null, size.all())])
-    text, stamp = string_slot(3, b"not found", (0,)), Slot(null, [b"\x3b" + b"\xff" * 8, b"\xbf\x01\x00\x00\x01\xff", b"\xa2\x01\x00\x00\x01"])
+    unsorted = [b"\xa3\x61\x61\x01\x20\x02\x00\x03", b"\x81\xa2\x01\x00\x00\x00", b"\xc1\xa2\x41\x61\x00\x40\x00", b"\xa1\xa2\x01\x00\x00\x00\xf6"]
+    text, stamp = string_slot(3, b"not found", (0,)), Slot(null, [b"\x3b" + b"\xff" * 8, b"\xbf\x01\x00\x00\x01\xff", b"\xa2\x01\x00\x00\x01"] + unsorted)
     code, ident = number_slot(6, 65535), Slot(b"\x00", [b"\xd8\x20\x9f\x5f\xff\xff", b"\x82" * 14 + b"\x80" * 15])
     yield Form(255, [code, number_slot(30, (1 << 64) - 1), text, stamp, ident])
 
