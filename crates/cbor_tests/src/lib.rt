@@ -56,40 +56,41 @@ mod tests {
         Ok(format!(in rt.alloc(); "{taken}: {whole}: {first}: {second}")?)
     }
 
+    static CURSORS: [(&str, &str); 15] = [
+        (
+            "82021a00000001",
+            "7: 0 4 - 2 - - - - 82021a00000001: 1 0 2 - - - - - 02: 2 0 1 - - - - - 1a00000001",
+        ),
+        ("5f41014102ff", "6: 0 2 - - - 01 02 - 5f41014102ff: -: -"),
+        ("81", "refused"),
+        ("420102ff", "3: 0 2 - - 0102 0102 - - 420102: -: -"),
+        (
+            "bf0102ff",
+            "4: 0 5 - 1 - - - - bf0102ff: 1 0 1 - - - - - 01: 2 0 2 - - - - - 02",
+        ),
+        (
+            "c243010000",
+            "5: 0 6 2 - - - - - c243010000: 1 2 - - 010000 010000 - - 43010000: -",
+        ),
+        ("9fff", "2: 0 4 - 0 - - - - 9fff: -: -"),
+        ("f820", "2: 0 7 32 - - - - - f820: -: -"),
+        (
+            "a202000100",
+            "5: 0 5 - 2 - - - - a202000100: 1 0 2 - - - - - 02: 2 0 0 - - - - - 00",
+        ),
+        ("a20000180000", "refused"),
+        ("a3010000000100", "refused"),
+        ("bf810000810000ff", "refused"),
+        ("", "refused"),
+        ("1c", "refused"),
+        ("f93c00", "refused"),
+    ];
+
     #[test]
     fn a_cursor_hands_out_parts(rt: HostRuntime) -> Result<(), Fail> {
-        let rows = [
-            (
-                "82021a00000001",
-                "7: 0 4 - 2 - - - - 82021a00000001: 1 0 2 - - - - - 02: 2 0 1 - - - - - 1a00000001",
-            ),
-            ("5f41014102ff", "6: 0 2 - - - 01 02 - 5f41014102ff: -: -"),
-            ("81", "refused"),
-            ("420102ff", "3: 0 2 - - 0102 0102 - - 420102: -: -"),
-            (
-                "bf0102ff",
-                "4: 0 5 - 1 - - - - bf0102ff: 1 0 1 - - - - - 01: 2 0 2 - - - - - 02",
-            ),
-            (
-                "c243010000",
-                "5: 0 6 2 - - - - - c243010000: 1 2 - - 010000 010000 - - 43010000: -",
-            ),
-            ("9fff", "2: 0 4 - 0 - - - - 9fff: -: -"),
-            ("f820", "2: 0 7 32 - - - - - f820: -: -"),
-            (
-                "a202000100",
-                "5: 0 5 - 2 - - - - a202000100: 1 0 2 - - - - - 02: 2 0 0 - - - - - 00",
-            ),
-            ("a20000180000", "refused"),
-            ("a3010000000100", "refused"),
-            ("bf810000810000ff", "refused"),
-            ("", "refused"),
-            ("1c", "refused"),
-            ("f93c00", "refused"),
-        ];
-        for (input, answer) in rows {
+        for (input, answer) in &CURSORS {
             let line = lines(&rt, input)?;
-            assert_eq!(rt; line.as_str(), answer);
+            assert_eq!(rt; line.as_str(), *answer);
         }
         Ok(())
     }
@@ -127,49 +128,51 @@ mod tests {
         Ok(shown)
     }
 
+    static PARTS: [(&str, &str); 10] = [
+        ("8342010261610a", "1 0102;4 a;6 -;"),
+        ("9f5f41014102ff7f61616162ffff", "1 0102;7 ab;"),
+        ("a1416b6176", "1 6b;3 v;"),
+        ("c24103", "1 03;"),
+        ("80", ""),
+        ("82", "refused"),
+        ("", "refused"),
+        ("4200", "refused"),
+        ("a200000000", "refused"),
+        ("9fc1ff", "refused"),
+    ];
+
     #[test]
     fn a_part_hands_out_contents(rt: HostRuntime) -> Result<(), Fail> {
-        let rows = [
-            ("8342010261610a", "1 0102;4 a;6 -;"),
-            ("9f5f41014102ff7f61616162ffff", "1 0102;7 ab;"),
-            ("a1416b6176", "1 6b;3 v;"),
-            ("c24103", "1 03;"),
-            ("80", ""),
-            ("82", "refused"),
-            ("", "refused"),
-            ("4200", "refused"),
-            ("a200000000", "refused"),
-            ("9fc1ff", "refused"),
-        ];
-        for (input, answer) in rows {
+        for (input, answer) in &PARTS {
             let line = parts(&rt, input)?;
-            assert_eq!(rt; line.as_str(), answer);
+            assert_eq!(rt; line.as_str(), *answer);
         }
         Ok(())
     }
 
+    static SIMPLE_VALUES: [(u8, bool); 10] = [
+        (0, true),
+        (20, true),
+        (23, true),
+        (24, false),
+        (25, false),
+        (27, false),
+        (30, false),
+        (31, false),
+        (32, true),
+        (255, true),
+    ];
+
     /// Simple values 24 to 31 have no spelling: what is written of one is not read.
     #[test]
     fn simple_values_have_spellings(rt: HostRuntime) -> Result<(), Fail> {
-        let rows = [
-            (0, true),
-            (20, true),
-            (23, true),
-            (24, false),
-            (25, false),
-            (27, false),
-            (30, false),
-            (31, false),
-            (32, true),
-            (255, true),
-        ];
-        for (number, has_one) in rows {
-            let Ok(blob) = write_det(rt.alloc(), &Item::Simple(number)) else {
+        for (number, has_one) in &SIMPLE_VALUES {
+            let Ok(blob) = write_det(rt.alloc(), &Item::Simple(*number)) else {
                 return Err(Fail::new("no answer"));
             };
             match read_wire(rt.alloc(), blob.as_list()) {
-                Ok((Item::Simple(read), _taken)) => assert!(rt; has_one && read == number),
-                Err(CborFault::Malformed(0)) => assert!(rt; !has_one),
+                Ok((Item::Simple(read), _taken)) => assert!(rt; *has_one && read == *number),
+                Err(CborFault::Malformed(0)) => assert!(rt; !*has_one),
                 _ => return Err(Fail::new("another answer")),
             }
         }

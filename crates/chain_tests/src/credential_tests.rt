@@ -9,7 +9,7 @@ use voucher_chain::{Credential, Voucher, matches, read_voucher};
 type Row = (u8, i64, u8, u8, u8, bool);
 
 /// For a voucher of SHA-256.
-const CREDENTIALS: [Row; 8] = [
+static CREDENTIALS: [Row; 8] = [
     (5, -16, 0, 0, 0, true),
     (5, -43, 0, 0, 0, true),
     (6, -16, 0, 0, 0, false),
@@ -21,7 +21,7 @@ const CREDENTIALS: [Row; 8] = [
 ];
 
 /// For one of SHA-384.
-const STRONG_CREDENTIALS: [Row; 6] = [
+static STRONG_CREDENTIALS: [Row; 6] = [
     (6, -43, 0, 0, 0, true),
     (6, -16, 0, 0, 0, true),
     (5, -43, 0, 0, 0, false),

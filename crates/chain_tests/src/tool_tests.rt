@@ -195,7 +195,7 @@ fn a_file_is_extended(rt: HostRuntime) {
 
 // ---- refusals
 
-const REFUSALS: [(ChainFault, &str); 10] = [
+static REFUSALS: [(ChainFault, &str); 10] = [
     (ChainFault::BadCertHash, "refused badcerthash\n"),
     (ChainFault::BadPrevHash(1), "refused badprevhash 1\n"),
     (ChainFault::BadInfoHash(0), "refused badinfohash 0\n"),

@@ -24,7 +24,7 @@ pub(crate) const REPLACED_AFTER: &str =
     "636c61628318c8004102822f58202b9cc1fe9432c948fc0d35cded0df39155763f92cd6b0ffb7ca024a29c7b63bb";
 
 /// Rendezvous information, and how it is written.
-pub(crate) const REPLACED: [(&str, &str); 6] = [
+pub(crate) static REPLACED: [(&str, &str); 6] = [
     (
         "828382054b6a72762e6578616d706c65820343191f69820c41018382024544c000020a82044218508101",
         "828382054b6a72762e6578616d706c65820343191f69820c41018382024544c000020a82044218508101",

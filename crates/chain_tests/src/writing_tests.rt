@@ -170,7 +170,7 @@ fn a_header_is_replaced(rt: HostRuntime) {
 // ---- strengths
 
 /// Types of keys, the bytes of their bodies, and their strengths.
-const STRENGTHS: [(i64, &[u8], u16); 10] = [
+static STRENGTHS: [(i64, &[u8], u16); 10] = [
     (200, b"0123456789abcdef", 256),
     (200, b"0123456789abcdefg", 384),
     (11, b"\x01", 384),

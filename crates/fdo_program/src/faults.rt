@@ -1,4 +1,4 @@
-ghost use Rattle.std.specs.Prelude.{◌≡◌};
+ghost use Rattle.std.specs.Prelude.{◌≡◌, ◌+◌, ◌-◌, ◌^◌, min};
 ghost use Rattle.fdo_ports.specs.Count.{Rises};
 
 use fdo_ports::Failed;
@@ -19,7 +19,8 @@ impl Faults {
 
     /// One more call failed. The count stands still at 2^64 - 1.
     pub fn raise(&mut self) -> Failed
-        ensures { Rises self.old.count self.new.count }
+        ensures rises { Rises self.old.count self.new.count }
+        ensures count { self.new.count ≡ min (self.old.count + 1) (2 ^ 64 - 1) }
     {
         self.count = self.count.saturating_add(1);
         Failed

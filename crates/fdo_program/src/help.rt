@@ -15,12 +15,16 @@ Commands
   voucher show      what an ownership voucher says; its bytes are the input
   voucher check     whether its chain of owners holds, with the signatures of
                     the laboratory suite
-  voucher extend    a voucher with one more entry, for the next owner; both
-                    are bytes, on standard input and standard output
+  voucher extend    a voucher with one more entry, for the next owner; it
+                    writes bytes, so send its output to a file
+
+The laboratory suite is for trials: whoever knows a public key can sign.
 
 Words of voucher extend
   KEY               the next owner's public key, the hex of its CBOR
-  PRIVATE           the last owner's private key, in hex
+  PRIVATE           the last owner's private key, in hex; a laboratory key has 1
+                    to 32 bytes. Others on this machine can see it, so use no
+                    key of worth
 
 Input of step: one line for each message
   KIND TOKEN BODY   and a line feed, with one space between the words
@@ -48,14 +52,15 @@ Exit status, and the last line that is written for it
       key of the suite: `fault words`
    3  the input is wrong, and nothing is answered: `fault input N`, where N is
       the offset of the first wrong line, or of the part of a voucher that is
-      wrong or holds what is wrong; 0 where `voucher show` gets more than 255
-      entries
+      wrong or holds what is wrong; and 0 where `voucher show` gets more than
+      255 entries
    4  reading the input failed: `fault read`
    5  writing the output failed
    7  out of memory
    8  the input has more than 16,777,216 bytes: `fault limit`
    9  the voucher is refused: `refused CAUSE`, and the number of the entry where
-      it has one; for `voucher extend` the new one's
+      it has one; for `voucher extend` the new one's. CAUSE is badcerthash,
+      badprevhash, badinfohash, noalgorithm, badsignature, toolong or failed
   11  the source of random draws failed: `fault random`, or the suite as it
       took the private key: `fault signer`
 ";

@@ -39,38 +39,40 @@ mod tests {
         spelling(rt, &sig_info_item(rt.alloc(), &copy)?)
     }
 
+    static KEYS: [(&str, &str); 4] = [
+        ("8318c8004101", "8318c8004101"),
+        ("830a024105", "830a02814105"),
+        ("8305028241014102", "8305028241014102"),
+        (
+            "830b03a5224103214102046020010102",
+            "830b03a401022001214102224103",
+        ),
+    ];
+
     #[test]
     fn keys_are_read_copied_and_written(rt: HostRuntime) -> Result<(), Fail> {
-        let rows = [
-            ("8318c8004101", "8318c8004101"),
-            ("830a024105", "830a02814105"),
-            ("8305028241014102", "8305028241014102"),
-            (
-                "830b03a5224103214102046020010102",
-                "830b03a401022001214102224103",
-            ),
-        ];
-        for (input, answer) in rows {
+        for (input, answer) in &KEYS {
             let key = read_key(rt.alloc(), &item(&rt, input)?)?;
             let text = key_text(&rt, &key)?;
-            assert_eq!(rt; text.as_str(), answer);
+            assert_eq!(rt; text.as_str(), *answer);
             assert!(rt; reads_its_body(&rt, &key)?);
         }
         Ok(())
     }
 
+    static NO_KEYS: [(&str, KeyFault); 5] = [
+        ("83090040", KeyFault::BadType(9)),
+        ("830a0740", KeyFault::BadEncoding(7)),
+        ("80", KeyFault::BadShape),
+        ("8309617840", KeyFault::BadShape),
+        ("830a0280", KeyFault::BadShape),
+    ];
+
     #[test]
     fn what_is_no_key_is_refused(rt: HostRuntime) -> Result<(), Fail> {
-        let rows = [
-            ("83090040", KeyFault::BadType(9)),
-            ("830a0740", KeyFault::BadEncoding(7)),
-            ("80", KeyFault::BadShape),
-            ("8309617840", KeyFault::BadShape),
-            ("830a0280", KeyFault::BadShape),
-        ];
-        for (input, fault) in rows {
+        for (input, fault) in &NO_KEYS {
             let found = read_key(rt.alloc(), &item(&rt, input)?);
-            assert!(rt; matches!(found, Err(other) if other == fault), "{input}");
+            assert!(rt; matches!(found, Err(other) if other == *fault), "{input}");
         }
         let none = X5Chain::new(Vec::new(rt.alloc()));
         assert!(rt; none.is_none());

@@ -54,16 +54,16 @@ mod tests {
     #[test]
     fn keys_and_signatures(rt: HostRuntime) -> Result<(), Fail> {
         let mut suite = LabSuite::new(Vec::new(rt.alloc()));
-        for (private, public, text, wanted) in KEYS {
+        for (private, public, text, wanted) in &KEYS {
             let private = hex::decode(rt.alloc(), private)?;
             let text = hex::decode(rt.alloc(), text)?;
             let key = suite.load(rt.alloc(), private.as_slice())?;
-            assert_eq!(rt; hex_of(&rt, key.as_slice())?.as_str(), public);
+            assert_eq!(rt; hex_of(&rt, key.as_slice())?.as_str(), *public);
             assert!(rt; suite.holds(key.as_slice()));
             let signed = sign_and_verify(&mut suite, rt.alloc(), key.as_slice(), text.as_slice())?;
             assert_eq!(rt; signed.alg, -65537);
             assert!(rt; signed.verified);
-            assert_eq!(rt; hex_of(&rt, signed.sig.as_slice())?.as_str(), wanted);
+            assert_eq!(rt; hex_of(&rt, signed.sig.as_slice())?.as_str(), *wanted);
         }
         assert!(rt; !suite.holds(b"\x83\x18\xc8\x00\x41\x02"));
         Ok(())
@@ -72,7 +72,7 @@ mod tests {
     #[test]
     fn what_is_verified(rt: HostRuntime) -> Result<(), Fail> {
         let mut suite = LabSuite::new(Vec::new(rt.alloc()));
-        for (_, public, text, wanted) in KEYS {
+        for (_, public, text, wanted) in &KEYS {
             let key = hex::decode(rt.alloc(), public)?;
             let text = hex::decode(rt.alloc(), text)?;
             let sig = hex::decode(rt.alloc(), wanted)?;
@@ -170,16 +170,16 @@ mod tests {
     fn sealing(rt: HostRuntime) -> Result<(), Fail> {
         let mut suite = LabSuite::new(Vec::new(rt.alloc()));
         let (short, long) = (*b"0123456789abcdef", *b"0123456789abcdefFEDCBA9876543210");
-        for (plain, aad, with_short, with_long) in SEALS {
+        for (plain, aad, with_short, with_long) in &SEALS {
             let plain = hex::decode(rt.alloc(), plain)?;
             let aad = hex::decode(rt.alloc(), aad)?;
             // the prover reads no table
             let plain = plain.as_slice().split_at(plain.len().min(1000)).0;
             let aad = aad.as_slice().split_at(aad.len().min(1000)).0;
             let sealed = suite.seal(rt.alloc(), -65538, short.as_slice(), &IV, aad, plain)?;
-            assert_eq!(rt; hex_of(&rt, sealed.as_slice())?.as_str(), with_short);
+            assert_eq!(rt; hex_of(&rt, sealed.as_slice())?.as_str(), *with_short);
             let sealed = suite.seal(rt.alloc(), -65539, long.as_slice(), &IV, aad, plain)?;
-            assert_eq!(rt; hex_of(&rt, sealed.as_slice())?.as_str(), with_long);
+            assert_eq!(rt; hex_of(&rt, sealed.as_slice())?.as_str(), *with_long);
             let opened = seal_and_open(
                 &mut suite,
                 rt.alloc(),
@@ -264,6 +264,20 @@ mod tests {
         Ok(())
     }
 
+    static NO_CERTIFICATES: [&str; 5] = [
+        "",
+        "FDO-LAB-CER",
+        "FDO-LAB-CERT",
+        "FDO-LAB-CERTabc",
+        "FDO-LAB-CERt",
+    ];
+
+    static ISSUED: [&[u8]; 3] = [
+        b"\x83",
+        b"\x83\x01\x00\x40",
+        b"\x83\x0b\x02\x81\x41\x01",
+    ];
+
     #[test]
     fn certificates(rt: HostRuntime) -> Result<(), Fail> {
         let alloc = rt.alloc();
@@ -278,21 +292,11 @@ mod tests {
             issue_and_read(&mut suite, alloc, b"\x83\x0a\x01\x40")?.as_slice()
                 == b"\x83\x0a\x01\x40".as_slice()
         );
-        for key in [
-            b"\x83".as_slice(),
-            b"\x83\x01\x00\x40",
-            b"\x83\x0b\x02\x81\x41\x01",
-        ] {
+        for key in &ISSUED {
             let read = issue_and_read(&mut suite, alloc, key)?;
-            assert_eq!(rt; read.as_slice(), key);
+            assert_eq!(rt; read.as_slice(), *key);
         }
-        for leaf in [
-            "",
-            "FDO-LAB-CER",
-            "FDO-LAB-CERT",
-            "FDO-LAB-CERTabc",
-            "FDO-LAB-CERt",
-        ] {
+        for leaf in &NO_CERTIFICATES {
             assert_eq!(rt;
                 ended(suite.leaf_key(alloc, leaf.as_bytes())),
                 "no algorithm"

@@ -1,7 +1,7 @@
 //! Values that Python computed with `hashlib` from what the laboratory suite is said to do.
 
 /// The private bytes, the public bytes, a text and its signature.
-pub(crate) const KEYS: [(&str, &str, &str, &str); 5] = [
+pub(crate) static KEYS: [(&str, &str, &str, &str); 5] = [
     (
         "01",
         "8318c8004101",
@@ -35,7 +35,7 @@ pub(crate) const KEYS: [(&str, &str, &str, &str); 5] = [
 ];
 
 /// A plain text, additional data, and what is sealed with a key of 16 bytes and with one of 32.
-pub(crate) const SEALS: [(&str, &str, &str, &str); 7] = [
+pub(crate) static SEALS: [(&str, &str, &str, &str); 7] = [
     (
         "",
         "",
@@ -84,7 +84,7 @@ pub(crate) const SEALS: [(&str, &str, &str, &str); 7] = [
 pub(crate) const SECRET: &str = "94030f1ec212c8ad7d0c36daf5bd96a645ae37f6d1e15ba049d42b17c5bf2ad9";
 
 /// What two ends drew, the first of them the one that began, and their secret.
-pub(crate) const SECRETS: [([u8; 32], [u8; 32], &str); 4] = [
+pub(crate) static SECRETS: [([u8; 32], [u8; 32], &str); 4] = [
     (
         [0; 32],
         [0; 32],

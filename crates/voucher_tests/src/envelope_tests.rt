@@ -89,27 +89,27 @@ fn encrypt0_of(rt: &HostRuntime, digits: &str) -> Result<Result<Encrypt0, CoseFa
 
 #[test]
 fn what_is_no_sign1(rt: HostRuntime) -> Result<(), Fail> {
-    for (input, place) in SIGN1_FAULTS {
+    for (input, place) in &SIGN1_FAULTS {
         let found = refusal(sign1_of(&rt, input)?);
-        assert_eq!(rt; found, Some(CoseFault::BadShape(place)), "{input}");
+        assert_eq!(rt; found, Some(CoseFault::BadShape(*place)), "{input}");
     }
     Ok(())
 }
 
 #[test]
 fn what_is_no_mac0(rt: HostRuntime) -> Result<(), Fail> {
-    for (input, place) in MAC0_FAULTS {
+    for (input, place) in &MAC0_FAULTS {
         let found = refusal(mac0_of(&rt, input)?);
-        assert_eq!(rt; found, Some(CoseFault::BadShape(place)), "{input}");
+        assert_eq!(rt; found, Some(CoseFault::BadShape(*place)), "{input}");
     }
     Ok(())
 }
 
 #[test]
 fn what_is_no_encrypt0(rt: HostRuntime) -> Result<(), Fail> {
-    for (input, place) in ENCRYPT0_FAULTS {
+    for (input, place) in &ENCRYPT0_FAULTS {
         let found = refusal(encrypt0_of(&rt, input)?);
-        assert_eq!(rt; found, Some(CoseFault::BadShape(place)), "{input}");
+        assert_eq!(rt; found, Some(CoseFault::BadShape(*place)), "{input}");
     }
     Ok(())
 }
@@ -158,7 +158,7 @@ fn encrypt0_gives(rt: &HostRuntime, value: &Encrypt0, digits: &str) -> Result<bo
 
 #[test]
 fn a_sign1_is_read_and_written(rt: HostRuntime) -> Result<(), Fail> {
-    for (input, parts, written) in SIGN1 {
+    for (input, parts, written) in &SIGN1 {
         let value = sign1_of(&rt, input)??;
         assert!(rt; sign1_has(&rt, &value, parts)?, "{input}");
         assert!(rt; sign1_gives(&rt, &value, written)?, "{input}");
@@ -169,7 +169,7 @@ fn a_sign1_is_read_and_written(rt: HostRuntime) -> Result<(), Fail> {
 
 #[test]
 fn a_mac0_is_read_and_written(rt: HostRuntime) -> Result<(), Fail> {
-    for (input, parts, written) in MAC0 {
+    for (input, parts, written) in &MAC0 {
         let value = mac0_of(&rt, input)??;
         assert!(rt; mac0_has(&rt, &value, parts)?, "{input}");
         assert!(rt; mac0_gives(&rt, &value, written)?, "{input}");
@@ -179,7 +179,7 @@ fn a_mac0_is_read_and_written(rt: HostRuntime) -> Result<(), Fail> {
 
 #[test]
 fn an_encrypt0_is_read_and_written(rt: HostRuntime) -> Result<(), Fail> {
-    for (input, parts, written) in ENCRYPT0 {
+    for (input, parts, written) in &ENCRYPT0 {
         let value = encrypt0_of(&rt, input)??;
         assert!(rt; encrypt0_has(&rt, &value, parts)?, "{input}");
         assert!(rt; encrypt0_gives(&rt, &value, written)?, "{input}");
@@ -210,23 +210,25 @@ fn named(rt: &HostRuntime, digits: &str) -> Result<Option<i64>, Fail> {
     Ok(algorithm(rt.alloc(), bytes.as_slice())?)
 }
 
+static ALGORITHMS: [(&str, Option<i64>); 12] = [
+    ("a10126", Some(-7)),
+    ("a118013806", Some(-7)),
+    ("bf0126ff", Some(-7)),
+    ("a2012604416b", Some(-7)),
+    ("a1011b7fffffffffffffff", Some(i64::MAX)),
+    ("a1013b7fffffffffffffff", Some(i64::MIN)),
+    ("a1011b8000000000000000", None),
+    ("a1013b8000000000000000", None),
+    ("a10126a0", None),
+    ("a10226", None),
+    ("820126", None),
+    ("", None),
+];
+
 #[test]
 fn algorithms_of_protected_headers(rt: HostRuntime) -> Result<(), Fail> {
-    for (input, wanted) in [
-        ("a10126", Some(-7)),
-        ("a118013806", Some(-7)),
-        ("bf0126ff", Some(-7)),
-        ("a2012604416b", Some(-7)),
-        ("a1011b7fffffffffffffff", Some(i64::MAX)),
-        ("a1013b7fffffffffffffff", Some(i64::MIN)),
-        ("a1011b8000000000000000", None),
-        ("a1013b8000000000000000", None),
-        ("a10126a0", None),
-        ("a10226", None),
-        ("820126", None),
-        ("", None),
-    ] {
-        assert_eq!(rt; named(&rt, input)?, wanted, "{input}");
+    for (input, wanted) in &ALGORITHMS {
+        assert_eq!(rt; named(&rt, input)?, *wanted, "{input}");
     }
     Ok(())
 }
@@ -392,7 +394,7 @@ fn what_is_sealed(rt: HostRuntime) -> Result<(), Fail> {
 
 #[test]
 fn texts_are_sealed_and_opened(rt: HostRuntime) -> Result<(), Fail> {
-    for (plain, sealed, maced) in SEALED_TEXTS {
+    for (plain, sealed, maced) in &SEALED_TEXTS {
         let plain = bytes_of(&rt, plain)?;
         // the prover reads no table
         let plain = plain.as_slice().split_at(plain.len().min(1000)).0;
@@ -409,57 +411,63 @@ fn texts_are_sealed_and_opened(rt: HostRuntime) -> Result<(), Fail> {
     Ok(())
 }
 
+static KEYS: [(i64, [u8; 32], Result<bool, CoseFault>); 5] = [
+    (-65538, KEY, Ok(true)),
+    // the last byte of the key has no part in it
+    (-65538, OTHER_KEY, Ok(true)),
+    (-65538, [0; 32], Err(CoseFault::NotOpened)),
+    (-65539, KEY, Err(CoseFault::NoAlgorithm(-65539))),
+    (3, KEY, Err(CoseFault::NoAlgorithm(3))),
+];
+
 #[test]
 fn what_is_opened(rt: HostRuntime) -> Result<(), Fail> {
     let sealed = bytes_of(&rt, SEALED)?;
-    for (alg, key, wanted) in [
-        (-65538, KEY, Ok(true)),
-        // the last byte of the key has no part in it
-        (-65538, OTHER_KEY, Ok(true)),
-        (-65538, [0; 32], Err(CoseFault::NotOpened)),
-        (-65539, KEY, Err(CoseFault::NoAlgorithm(-65539))),
-        (3, KEY, Err(CoseFault::NoAlgorithm(3))),
-    ] {
-        assert_eq!(rt; opens(&rt, alg, &key, sealed.as_slice()), wanted);
+    for (alg, key, wanted) in &KEYS {
+        assert_eq!(rt; opens(&rt, *alg, key, sealed.as_slice()), *wanted);
     }
     Ok(())
 }
 
+static OPENED: [(i64, &str, Result<bool, CoseFault>); 4] = [
+    (-65539, SEALED_LONG, Ok(true)),
+    (-65538, SEALED_NONE, Ok(false)),
+    (3, "d083", Err(CoseFault::BadShape(2))),
+    (
+        -65538,
+        "d08347a1013a00010001a1054c7477656c7665206279746573430102ff",
+        Err(CoseFault::NotOpened),
+    ),
+];
+
 #[test]
 fn what_is_not_opened(rt: HostRuntime) -> Result<(), Fail> {
-    for (alg, input, wanted) in [
-        (-65539, SEALED_LONG, Ok(true)),
-        (-65538, SEALED_NONE, Ok(false)),
-        (3, "d083", Err(CoseFault::BadShape(2))),
-        (
-            -65538,
-            "d08347a1013a00010001a1054c7477656c7665206279746573430102ff",
-            Err(CoseFault::NotOpened),
-        ),
-    ] {
+    for (alg, input, wanted) in &OPENED {
         let bytes = bytes_of(&rt, input)?;
-        assert_eq!(rt; opens(&rt, alg, &KEY, bytes.as_slice()), wanted);
+        assert_eq!(rt; opens(&rt, *alg, &KEY, bytes.as_slice()), *wanted);
     }
     Ok(())
 }
+
+static MACED_ROWS: [(&str, Result<bool, CoseFault>); 9] = [
+    (MACED, Ok(true)),
+    (LOOSELY_MACED, Ok(true)),
+    (NO_INNER, Err(CoseFault::NotOpened)),
+    (OTHER_INNER, Err(CoseFault::NotOpened)),
+    (WRONG_HALF, Err(CoseFault::NotOpened)),
+    (CUT_TAG, Err(CoseFault::NotOpened)),
+    (OTHER_MAC, Err(CoseFault::NoAlgorithm(-65539))),
+    (SEALED, Err(CoseFault::BadShape(0))),
+    ("d18443a10105a08000", Err(CoseFault::BadShape(7))),
+];
 
 #[test]
 fn encrypt_then_mac(rt: HostRuntime) -> Result<(), Fail> {
     let bytes = seal_etm(rt.alloc(), &mut lab(&rt), -65539, &KEY, &IV, PLAIN)?;
     assert!(rt; is(&rt, bytes.as_list(), MACED)?);
-    for (input, wanted) in [
-        (MACED, Ok(true)),
-        (LOOSELY_MACED, Ok(true)),
-        (NO_INNER, Err(CoseFault::NotOpened)),
-        (OTHER_INNER, Err(CoseFault::NotOpened)),
-        (WRONG_HALF, Err(CoseFault::NotOpened)),
-        (CUT_TAG, Err(CoseFault::NotOpened)),
-        (OTHER_MAC, Err(CoseFault::NoAlgorithm(-65539))),
-        (SEALED, Err(CoseFault::BadShape(0))),
-        ("d18443a10105a08000", Err(CoseFault::BadShape(7))),
-    ] {
+    for (input, wanted) in &MACED_ROWS {
         let bytes = bytes_of(&rt, input)?;
-        assert_eq!(rt; opens_etm(&rt, &KEY, bytes.as_slice()), wanted, "{input}");
+        assert_eq!(rt; opens_etm(&rt, &KEY, bytes.as_slice()), *wanted, "{input}");
     }
     Ok(())
 }
@@ -473,16 +481,18 @@ fn changed(rt: &HostRuntime, at: usize) -> Result<Result<bool, CoseFault>, Fail>
     Ok(opens_etm(rt, &KEY, bytes.as_slice()))
 }
 
+static CHANGED: [(usize, Result<bool, CoseFault>); 4] = [
+    (60, Err(CoseFault::NotOpened)),
+    (97, Err(CoseFault::NotOpened)),
+    (128, Err(CoseFault::NotOpened)),
+    (129, Ok(true)),
+];
+
 #[test]
 fn a_changed_byte_is_not_opened(rt: HostRuntime) -> Result<(), Fail> {
     // of the inner envelope, the first of the tag, and the last; and there is no byte at 129
-    for (at, wanted) in [
-        (60, Err(CoseFault::NotOpened)),
-        (97, Err(CoseFault::NotOpened)),
-        (128, Err(CoseFault::NotOpened)),
-        (129, Ok(true)),
-    ] {
-        assert_eq!(rt; changed(&rt, at)?, wanted);
+    for (at, wanted) in &CHANGED {
+        assert_eq!(rt; changed(&rt, *at)?, *wanted);
     }
     let bytes = bytes_of(&rt, MACED)?;
     let found = opens_etm(&rt, &OTHER_KEY, bytes.as_slice());

@@ -52,7 +52,7 @@ pub(crate) const OTHER_MAC: &str =
     "d18443a10106a05856d08347a1013a00010001a1054c7477656c7665206279746573583bc5f435268440422d457c3610dbe7958f63fbcb4c04b3772b8aa19796b6f2e1923e43b3e8f2a01b19345dffb7df8260e19e9375742fb65b904d8e285820e30f36665e531d48ffd45c0a67f43ed83e89f5afea6ee102ab9d62a67f32894d";
 
 /// Plain texts, each sealed with -65538 and encrypt-then-MAC.
-pub(crate) const SEALED_TEXTS: [(&str, &str, &str); 4] = [
+pub(crate) static SEALED_TEXTS: [(&str, &str, &str); 4] = [
     (
         "",
         "d08347a1013a00010001a1054c7477656c766520627974657350b30d3ac403a095aea08db6bdcea599e7",
