@@ -98,40 +98,44 @@ fn words_of(rt: &HostRuntime, text: &str) -> Result<Vec<Text>, Fail> {
     Ok(words)
 }
 
+static OWN_WORDS: [(&str, Option<OwnWord>); 10] = [
+    ("--help", Some(OwnWord::Help)),
+    ("--version", Some(OwnWord::Version)),
+    ("", None),
+    ("--help x", None),
+    ("x --help", None),
+    ("--version --version", None),
+    ("--help ", None),
+    ("--HELP", None),
+    ("-h", None),
+    ("voucher --help", None),
+];
+
 #[test]
 fn own_words_stand_alone(rt: HostRuntime) -> Result<(), Fail> {
     let none = Vec::new(rt.alloc());
     assert_eq!(rt; OwnWord::of(none.as_slice()), None);
-    for (text, own) in [
-        ("--help", Some(OwnWord::Help)),
-        ("--version", Some(OwnWord::Version)),
-        ("", None),
-        ("--help x", None),
-        ("x --help", None),
-        ("--version --version", None),
-        ("--help ", None),
-        ("--HELP", None),
-        ("-h", None),
-        ("voucher --help", None),
-    ] {
+    for (text, own) in &OWN_WORDS {
         let words = words_of(&rt, text)?;
-        assert_eq!(rt; OwnWord::of(words.as_slice()), own, "{text}");
+        assert_eq!(rt; OwnWord::of(words.as_slice()), *own, "{text}");
     }
     Ok(())
 }
 
+static OWN_TEXTS: [(&str, u64, Status, &str); 5] = [
+    ("--version", 0, Status::Done, "fdo 0.1.0\n"),
+    ("--version", 1, Status::Write, ""),
+    ("--help", 0, Status::Done, HELP),
+    ("--help", 1, Status::Write, ""),
+    ("--help x", 0, Status::Words, "fault words\n"),
+];
+
 #[test]
 fn own_texts_are_written(rt: HostRuntime) -> Result<(), Fail> {
-    for (word, fail, status, written) in [
-        ("--version", 0, Status::Done, b"fdo 0.1.0\n".as_slice()),
-        ("--version", 1, Status::Write, b"".as_slice()),
-        ("--help", 0, Status::Done, HELP.as_bytes()),
-        ("--help", 1, Status::Write, b"".as_slice()),
-        ("--help x", 0, Status::Words, b"fault words\n".as_slice()),
-    ] {
+    for (word, fail, status, written) in &OWN_TEXTS {
         let words = words_of(&rt, word)?;
         let mut fails = Vec::new(rt.alloc());
-        fails.push(fail)?;
+        fails.push(*fail)?;
         let mut input = PlainSource::new(Vec::new(rt.alloc()));
         let mut output = MemorySink::new(Vec::new(rt.alloc()), fails);
         let mut suite = LabSuite::new(Vec::new(rt.alloc()));
@@ -144,8 +148,8 @@ fn own_texts_are_written(rt: HostRuntime) -> Result<(), Fail> {
             &mut suite,
             &mut random,
         );
-        assert_eq!(rt; ending, status);
-        assert_eq!(rt; output.written(), written);
+        assert_eq!(rt; ending, *status);
+        assert_eq!(rt; output.written(), written.as_bytes());
     }
     Ok(())
 }

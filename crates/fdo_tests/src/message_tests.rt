@@ -53,26 +53,27 @@ fn tokens_have_bounds(rt: HostRuntime) -> Result<(), NoMemory> {
     Ok(())
 }
 
+static HELLOS: [(&[u8], Option<usize>); 9] = [
+    (b"\x80", None),
+    (b"\x9f\xff", None),
+    (b"\x98\x00", None),
+    (b"", Some(0)),
+    (b"\x81\x00", Some(0)),
+    (b"\x81\x00\x00", Some(0)),
+    (b"\x80\x00", Some(1)),
+    (b"\x82\x1c", Some(1)),
+    (b"\xc1\x80", Some(0)),
+];
+
 #[test]
 fn bodies_are_read_to_their_end(rt: HostRuntime) -> Result<(), NoMemory> {
-    let cases: [(&[u8], Option<usize>); 9] = [
-        (b"\x80", None),
-        (b"\x9f\xff", None),
-        (b"\x98\x00", None),
-        (b"", Some(0)),
-        (b"\x81\x00", Some(0)),
-        (b"\x81\x00\x00", Some(0)),
-        (b"\x80\x00", Some(1)),
-        (b"\x82\x1c", Some(1)),
-        (b"\xc1\x80", Some(0)),
-    ];
-    for (bytes, fault) in cases {
+    for (bytes, fault) in &HELLOS {
         match read_body(rt.alloc(), 20, bytes) {
             Ok(said) => {
                 assert!(rt; matches!(said, Msg::Hello));
-                assert_eq!(rt; fault, None);
+                assert_eq!(rt; *fault, None);
             }
-            Err(BodyFault::Body(place)) => assert_eq!(rt; fault, Some(place)),
+            Err(BodyFault::Body(place)) => assert_eq!(rt; *fault, Some(place)),
             Err(BodyFault::NoMemory) => assert!(rt; false, "memory ran out"),
         }
     }
@@ -363,24 +364,25 @@ fn bodies_are_written(rt: HostRuntime) -> Result<(), NoMemory> {
     Ok(())
 }
 
+static NUMBERS: [(&[u8], Option<u64>); 12] = [
+    (b"0", Some(0)),
+    (b"7", Some(7)),
+    (b"20", Some(20)),
+    (b"100", Some(100)),
+    (b"255", Some(255)),
+    (b"256", None),
+    (b"00", None),
+    (b"01", None),
+    (b"+1", None),
+    (b"-1", None),
+    (b"", None),
+    (b"1a", None),
+];
+
 #[test]
 fn numbers_have_one_spelling(rt: HostRuntime) {
-    let cases: [(&[u8], Option<u64>); 12] = [
-        (b"0", Some(0)),
-        (b"7", Some(7)),
-        (b"20", Some(20)),
-        (b"100", Some(100)),
-        (b"255", Some(255)),
-        (b"256", None),
-        (b"00", None),
-        (b"01", None),
-        (b"+1", None),
-        (b"-1", None),
-        (b"", None),
-        (b"1a", None),
-    ];
-    for (word, number) in cases {
-        assert_eq!(rt; read_number(word, 255), number);
+    for (word, number) in &NUMBERS {
+        assert_eq!(rt; read_number(word, 255), *number);
     }
 }
 
