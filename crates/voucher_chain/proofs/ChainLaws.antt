@@ -59,12 +59,12 @@ pub none_checked : (o : Option ChainFault) → checked o ≡ Ok tt → o ≡ Non
 none_checked None h = refl
 none_checked (Some f) h = absurd (cc h)
 
-links_cons : (v : Verifies) (header : Header) (index : ℕ) (before : List ℕ) (key : PublicKey) (e : Entry) (es : List Entry)
+pub links_cons : (v : Verifies) (header : Header) (index : ℕ) (before : List ℕ) (key : PublicKey) (e : Entry) (es : List Entry)
     → links_break v header index before key (e ∷ es) ≡ or_else (entry_break v header index before key e) (links_break v header (index + 1) e.raw e.key es)
 unfolding links_break
 links_cons v header index before key e es = refl
 
-links_nil : (v : Verifies) (header : Header) (index : ℕ) (before : List ℕ) (key : PublicKey) → links_break v header index before key [] ≡ None
+pub links_nil : (v : Verifies) (header : Header) (index : ℕ) (before : List ℕ) (key : PublicKey) → links_break v header index before key [] ≡ None
 unfolding links_break
 links_nil v header index before key = refl
 
@@ -106,10 +106,10 @@ hash_with k l x = record { kind = k; len = l; bytes = x }
 abbrev some_hash : Hash → Option Hash
 some_hash h = Some h
 
-abbrev none_or : Bool → ChainFault → Option ChainFault
+abbrev pub none_or : Bool → ChainFault → Option ChainFault
 none_or b f = if b then None else Some f
 
-same_is : (a b : Hash) → same_hash a b ≡ true → a ≡ b
+pub same_is : (a b : Hash) → same_hash a b ≡ true → a ≡ b
 same_is a b e =
     let both = and_true (int_eq a.kind b.kind && (a.len == b.len)) (bytes_eq a.bytes b.bytes) e in
     let front = and_true (int_eq a.kind b.kind) (a.len == b.len) both.0 in
@@ -118,10 +118,10 @@ same_is a b e =
     go : (k m : ℤ) (l n : ℕ) (x y : List ℕ) → k ≡ m → l ≡ n → x ≡ y → hash_with k l x ≡ hash_with m n y
     go k m l n x y p q r = rw (p, q, r) refl
 
-is_same : (a b : Hash) → a ≡ b → same_hash a b ≡ true
+pub is_same : (a b : Hash) → a ≡ b → same_hash a b ≡ true
 is_same a b e = rw ((Decides-int_eq a.kind b.kind).1 (ap (λ (h : Hash). h.kind) e), eq-eqb a.len b.len (ap (λ (h : Hash). h.len) e), (bytes_eq-Decides a.bytes b.bytes).1 (ap (λ (h : Hash). h.bytes) e)) refl
 
-hash_holds : (unknown wrong : ChainFault) (hash : Hash) (text : List ℕ) → hash_break unknown wrong hash text ≡ None → IsHashOf hash text
+pub hash_holds : (unknown wrong : ChainFault) (hash : Hash) (text : List ℕ) → hash_break unknown wrong hash text ≡ None → IsHashOf hash text
 hash_holds unknown wrong hash text e = go (hashed hash.kind text) e
   where
     told : (bytes : List ℕ) (b : Bool) → same_hash (hash_value hash.kind bytes) hash ≡ b → none_or b wrong ≡ None → some_hash (hash_value hash.kind bytes) ≡ some_hash hash
@@ -132,7 +132,7 @@ hash_holds unknown wrong hash text e = go (hashed hash.kind text) e
     go None e = absurd (cc e)
     go (Some bytes) e = told bytes (same_hash (hash_value hash.kind bytes) hash) refl e
 
-holds_hash : (unknown wrong : ChainFault) (hash : Hash) (text : List ℕ) → IsHashOf hash text → hash_break unknown wrong hash text ≡ None
+pub holds_hash : (unknown wrong : ChainFault) (hash : Hash) (text : List ℕ) → IsHashOf hash text → hash_break unknown wrong hash text ≡ None
 holds_hash unknown wrong hash text e = go (hashed hash.kind text) e
   where
     go : (o : Option (List ℕ)) → option_map (hash_value hash.kind) o ≡ Some hash → told_break unknown wrong hash o ≡ None
@@ -144,7 +144,7 @@ signature_holds index None e = absurd (cc e)
 signature_holds index (Some true) e = refl
 signature_holds index (Some false) e = absurd (cc e)
 
-follows_found : (v : Verifies) (header : Header) (index : ℕ) (before : List ℕ) (key : PublicKey) (e : Entry) → entry_break v header index before key e ≡ None → Follows v header before key e
+pub follows_found : (v : Verifies) (header : Header) (index : ℕ) (before : List ℕ) (key : PublicKey) (e : Entry) → entry_break v header index before key e ≡ None → Follows v header before key e
 unfolding entry_break
 follows_found v header index before key e h =
     let prev = hash_break (fault.NoAlgorithm index) (fault.BadPrevHash index) e.prev before in
@@ -158,7 +158,7 @@ follows_found v header index before key e h =
       signed = signature_holds index (signature_told v key e.sign) second.1;
     }
 
-follows_again : (v : Verifies) (header : Header) (index : ℕ) (before : List ℕ) (key : PublicKey) (e : Entry) → Follows v header before key e → entry_break v header index before key e ≡ None
+pub follows_again : (v : Verifies) (header : Header) (index : ℕ) (before : List ℕ) (key : PublicKey) (e : Entry) → Follows v header before key e → entry_break v header index before key e ≡ None
 unfolding entry_break
 follows_again v header index before key e h =
     rw (holds_hash (fault.NoAlgorithm index) (fault.BadPrevHash index) e.prev before h.prev, holds_hash (fault.NoAlgorithm index) (fault.BadInfoHash index) e.hdr (information header) h.hdr, h.signed) refl
@@ -176,13 +176,13 @@ links_again v header index before key (e ∷ es) keys h =
     links_cons v header index before key e es
     ∙ (rw (follows_again v header index before key e h.1, links_again v header (index + 1) e.raw e.key es h.0 h.2) refl)
 
-certificates_hold : (chain : Option (List (List ℕ))) (hash : Option Hash) → certificates_break chain hash ≡ None → HasCertificates chain hash
+pub certificates_hold : (chain : Option (List (List ℕ))) (hash : Option Hash) → certificates_break chain hash ≡ None → HasCertificates chain hash
 certificates_hold None None e = tt
 certificates_hold None (Some h) e = absurd (cc e)
 certificates_hold (Some c) None e = absurd (cc e)
 certificates_hold (Some c) (Some h) e = hash_holds fault.BadCertHash fault.BadCertHash h (flat_map (λ certificate. certificate) c) e
 
-hold_certificates : (chain : Option (List (List ℕ))) (hash : Option Hash) → HasCertificates chain hash → certificates_break chain hash ≡ None
+pub hold_certificates : (chain : Option (List (List ℕ))) (hash : Option Hash) → HasCertificates chain hash → certificates_break chain hash ≡ None
 hold_certificates None None e = refl
 hold_certificates None (Some h) e = absurd e
 hold_certificates (Some c) None e = absurd e

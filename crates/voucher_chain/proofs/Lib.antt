@@ -1,5 +1,6 @@
 pub mod Alls
 pub mod BackLaws
+pub mod BreakLaws
 pub mod ChainLaws
 pub mod DeepLaws
 pub mod HeaderBack

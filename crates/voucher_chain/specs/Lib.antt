@@ -1,3 +1,4 @@
+pub mod Broken
 pub mod Chain
 pub mod Deep
 pub mod Entry

@@ -1,5 +1,8 @@
-ghost use Rattle.std.specs.Prelude.{◌≡◌, ◌≤◌, ◌++◌, ℕ, List, length, flat_map, Option, Ok, IfOk};
+ghost use Rattle.std.specs.Prelude.{◌≡◌, ◌≤◌, ◌++◌, ◌⊎◌, ℕ, List, length, flat_map, Option, Ok, Err, IfOk, IfErr};
 ghost use Rattle.key_codec.specs.declared.key.PublicKey.{PublicKey};
+ghost use Rattle.voucher_chain.specs.declared.fault.ChainFault.{ChainFault};
+ghost use Rattle.voucher_chain.specs.declared.fault.ChainFault.TheVariants.{NoMemory as OutOfMemory};
+ghost use Rattle.voucher_chain.specs.Broken.{BreaksEntry, IsFirstBreak};
 ghost use Rattle.voucher_chain.specs.Chain.{Chain, Follows, checked, certificates_break, entry_break, first_break, front, hash_break, last_key, links_break, signature_break, signature_told};
 ghost use Rattle.voucher_chain.specs.Fault.{Answers, or_else};
 
@@ -41,6 +44,10 @@ pub fn check_entry<S: Suite>(
     ensures found { IfOk result (λ _. Follows S.Verifier.verifies header.now (prev_first.now ++ prev_second.now) signer.now entry.now) }
     // An entry that does is Ok, unless memory runs out.
     ensures only { Follows S.Verifier.verifies header.now (prev_first.now ++ prev_second.now) signer.now entry.now → Answers (Ok tt) result }
+    // An error is want of memory, or names the first part of the entry that does not hold.
+    ensures broken { IfErr result (λ f. (f ≡ OutOfMemory) ⊎ BreaksEntry S.Verifier.verifies header.now index (prev_first.now ++ prev_second.now) signer.now entry.now f) }
+    // The first part that does not hold is the error, unless memory runs out.
+    ensures only_broken { (f : ChainFault) → BreaksEntry S.Verifier.verifies header.now index (prev_first.now ++ prev_second.now) signer.now entry.now f → Answers (Err f) result }
     // The first clause that does not hold.
     ensures exact { Answers (checked (entry_break S.Verifier.verifies header.now index (prev_first.now ++ prev_second.now) signer.now entry.now)) result }
     ensures held { S.Holder.held suite.new ≡ S.Holder.held suite.old }
@@ -153,6 +160,10 @@ pub fn check_chain<S: Suite>(
     ensures found { IfOk result (λ _. (keys : List PublicKey) × Chain S.Verifier.verifies voucher.now keys) }
     // A chain that holds is Ok, unless memory runs out.
     ensures only { (keys : List PublicKey) → Chain S.Verifier.verifies voucher.now keys → Answers (Ok tt) result }
+    // An error is want of memory, or names the first break.
+    ensures broken { IfErr result (λ f. (f ≡ OutOfMemory) ⊎ IsFirstBreak S.Verifier.verifies voucher.now f) }
+    // The first break is the error, unless memory runs out.
+    ensures only_broken { (f : ChainFault) → IsFirstBreak S.Verifier.verifies voucher.now f → Answers (Err f) result }
     // The first break, with its first clause that does not hold.
     ensures exact { Answers (checked (first_break S.Verifier.verifies voucher.now)) result }
     ensures held { S.Holder.held suite.new ≡ S.Holder.held suite.old }

@@ -9,11 +9,11 @@ use crate::chain::owner_key;
 use crate::entry::{Entry, payload_item_of};
 use crate::fault::ChainFault;
 use crate::strengths::{hash_kind_of, strength};
-use crate::voucher::{Entries, Voucher, are_bytes, voucher_raw};
+use crate::voucher::{Entries, Voucher, are_bytes, copy_chain, copy_entries, voucher_raw};
 use cbor_core::{Blob, NoMemory, Pairs, write_det};
 use cose_envelopes::{CoseFault, Sign1, sign, write_sign1};
 use hash_hmac::{Hash, hash_of};
-use key_codec::{PublicKey, X5Chain, key_bytes};
+use key_codec::{PublicKey, key_bytes};
 use std::alloc::Global;
 use suite_port::Suite;
 
@@ -197,23 +197,4 @@ fn with_entry(alloc: Global, voucher: &Voucher, entry: Entry) -> Result<Voucher,
         chain: copy_chain(alloc, &voucher.chain)?,
         entries: Entries::new(entries),
     })
-}
-
-fn copy_chain(alloc: Global, chain: &Option<X5Chain>) -> Result<Option<X5Chain>, NoMemory>
-    ensures { IfOk result (λ copy. copy ≡ chain.now) }
-{
-    match chain {
-        Some(chain) => Ok(Some(chain.copy(alloc)?)),
-        None => Ok(None),
-    }
-}
-
-fn copy_entries(alloc: Global, entries: &[Entry]) -> Result<Vec<Entry>, NoMemory>
-    ensures { IfOk result (λ all. all.items ≡ entries.now) }
-{
-    let mut all = Vec::new(alloc);
-    for entry in entries {
-        all.push(entry.copy(alloc)?)?;
-    }
-    Ok(all)
 }

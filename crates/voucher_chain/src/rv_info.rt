@@ -76,6 +76,13 @@ impl RvDirective {
         self.instructions.as_slice()
     }
 
+    pub fn into_vec(self) -> Vec<RvInstr>
+        ensures { result.items ≡ self }
+    {
+        let RvDirective { instructions } = self;
+        instructions
+    }
+
     /// An equal directive.
     pub fn copy(&self, alloc: Global) -> Result<RvDirective, NoMemory>
         ensures { IfOk result (λ copy. copy ≡ self.now) }
@@ -100,6 +107,13 @@ impl RvInfo {
         ensures { result.now ≡ self.now }
     {
         self.directives.as_slice()
+    }
+
+    pub fn into_vec(self) -> Vec<RvDirective>
+        ensures { result.items ≡ self }
+    {
+        let RvInfo { directives } = self;
+        directives
     }
 
     /// Equal rendezvous information.

@@ -48,6 +48,31 @@ impl Entries {
     {
         self.entries.as_slice()
     }
+
+    pub fn into_vec(self) -> Vec<Entry>
+        ensures { result.items ≡ self }
+    {
+        let Entries { entries } = self;
+        entries
+    }
+
+    /// Equal entries.
+    pub fn copy(&self, alloc: Global) -> Result<Entries, NoMemory>
+        ensures { IfOk result (λ copy. copy ≡ self.now) }
+    {
+        let entries = copy_entries(alloc, self.entries.as_slice())?;
+        Ok(Entries { entries })
+    }
+}
+
+pub(crate) fn copy_entries(alloc: Global, entries: &[Entry]) -> Result<Vec<Entry>, NoMemory>
+    ensures { IfOk result (λ all. all.items ≡ entries.now) }
+{
+    let mut all = Vec::new(alloc);
+    for entry in entries {
+        all.push(entry.copy(alloc)?)?;
+    }
+    Ok(all)
 }
 
 /// An ownership voucher (FIDO Device Onboard 1.1, section 3.4.1).
@@ -64,6 +89,34 @@ pub struct Voucher {
     pub chain: Option<X5Chain>,
     /// At most 255.
     pub entries: Entries,
+}
+
+impl Voucher {
+    /// An equal voucher.
+    pub fn copy(&self, alloc: Global) -> Result<Voucher, NoMemory>
+        ensures { IfOk result (λ copy. copy ≡ self.now) }
+    {
+        Ok(Voucher {
+            raw: self.raw.copy()?,
+            header: self.header.copy(alloc)?,
+            hmac: self.hmac,
+            hmac_raw: self.hmac_raw.copy()?,
+            chain: copy_chain(alloc, &self.chain)?,
+            entries: self.entries.copy(alloc)?,
+        })
+    }
+}
+
+pub(crate) fn copy_chain(
+    alloc: Global,
+    chain: &Option<X5Chain>,
+) -> Result<Option<X5Chain>, NoMemory>
+    ensures { IfOk result (λ copy. copy ≡ chain.now) }
+{
+    match chain {
+        Some(chain) => Ok(Some(chain.copy(alloc)?)),
+        None => Ok(None),
+    }
 }
 
 /// The voucher that bytes spell, all of them. `BadShape` comes exactly where they are none of the form, `TooLong` exactly
