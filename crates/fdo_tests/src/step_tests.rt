@@ -36,6 +36,8 @@ const TURN: &[u8] = b"255 - 851865156f696e76616c6964206d657373616765f600\n";
 
 const TURN_OF_0: &[u8] = b"255 - 851865006f696e76616c6964206d657373616765f600\n";
 
+const TURN_OF_254: &[u8] = b"255 - 85186518fe6f696e76616c6964206d657373616765f600\n";
+
 const NO_DRAW: &[u8] = b"255 - 851901f41468696e7465726e616cf600\nfault random\n";
 
 const NO_FIRST_DRAW: &[u8] =
@@ -47,15 +49,21 @@ const WRONG: &[u8] = b"fault input 0\n";
 
 const WRONG_AT_10: &[u8] = b"fault input 10\n";
 
-static CASES: [Case; 29] = [
+static CASES: [Case; 35] = [
     (STEP, b"20 - 80\n", 2, [0, 0, 0], ACK, 0),
     (STEP, b"20 - 9fff\n", 2, [0, 0, 0], ACK, 0),
+    (STEP, b"20 - 9800\n", 2, [0, 0, 0], ACK, 0),
+    (STEP, b"20 - 9b0000000000000000\n", 2, [0, 0, 0], ACK, 0),
     (STEP, b"20 token 80\n", 2, [0, 0, 0], ACK, 0),
     (STEP, b"20 - 8100\n", 2, [0, 0, 0], BODY, 0),
     (STEP, b"20 - 8080\n", 2, [0, 0, 0], BODY, 0),
+    (STEP, b"20 - 81\n", 2, [0, 0, 0], BODY, 0),
+    (STEP, b"20 - a0\n", 2, [0, 0, 0], BODY, 0),
+    (STEP, b"20 - ff\n", 2, [0, 0, 0], BODY, 0),
     (STEP, b"20 - 8100\n20 - 8080\n", 2, [0, 0, 0], TWICE, 0),
     (STEP, b"21 - 80\n", 2, [0, 0, 0], TURN, 0),
     (STEP, b"0 a 00\n", 2, [0, 0, 0], TURN_OF_0, 0),
+    (STEP, b"254 - 00\n", 2, [0, 0, 0], TURN_OF_254, 0),
     (STEP, b"255 - 80\n", 2, [0, 0, 0], b"ended\n", 0),
     (STEP, b"", 2, [0, 0, 0], b"", 0),
     (STEP, b"20 - 80", 2, [0, 0, 0], WRONG, 3),
