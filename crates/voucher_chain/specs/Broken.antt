@@ -1,4 +1,4 @@
--- Where a voucher's chain of owners breaks first (FIDO Device Onboard 1.1, section 3.4.1): at the certificates, or at an
+-- Where a voucher's chain of owners breaks first (FIDO Device Onboard 1.1, section 3.4): at the certificates, or at an
 -- entry before which all hold, by the first of its parts that does not hold.
 use Rattle.std.specs.Prelude.{◌≡◌, ◌≢◌, ◌⊎◌, ℕ, List, ◌∷◌, ◌++◌, length, Bool, false, Option, Some, None}
 use Rattle.hash_hmac.specs.declared.hash.Hash.{Hash}

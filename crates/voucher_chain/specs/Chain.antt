@@ -1,4 +1,4 @@
--- The chain of a voucher's owners (FIDO Device Onboard 1.1, section 3.4.1): each entry is signed by the owner before it,
+-- The chain of a voucher's owners (FIDO Device Onboard 1.1, section 3.4): each entry is signed by the owner before it,
 -- holds the hash of the bytes before it and of the header's information, and names the next owner's key.
 use Rattle.std.specs.Prelude.{◌≡◌, ℕ, ◌+◌, ℤ, List, [], ◌∷◌, ◌++◌, flat_map, Bool, true, false, ◌&&◌, ◌==◌, if◌then◌else◌, Option, Some, None, Result, Ok, Err}
 use Rattle.std.specs.Ordering.{int_eq}

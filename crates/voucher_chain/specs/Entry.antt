@@ -1,4 +1,4 @@
--- The entries of an ownership voucher (FIDO Device Onboard 1.1, section 3.4.1, "OVEntry"): a Sign1 whose payload is an
+-- The entries of an ownership voucher (FIDO Device Onboard 1.1, section 3.4.2, "OVEntry"): a Sign1 whose payload is an
 -- array of the hash of what stands before, the hash of the header's information, null or bytes, and the next owner's key.
 use Rattle.std.specs.Prelude.{ℕ, List, [], ◌∷◌, Bool, Option, Some, None, if◌then◌else◌, is_some, Result, option_map}
 use Rattle.cbor_core.specs.declared.item.Item.{Item, out-Item}

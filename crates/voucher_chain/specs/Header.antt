@@ -1,4 +1,4 @@
--- The header of an ownership voucher (FIDO Device Onboard 1.1, section 3.4.1, "OVHeader"): an array of the version, the
+-- The header of an ownership voucher (FIDO Device Onboard 1.1, section 3.4.2, "OVHeader"): an array of the version, the
 -- GUID, the rendezvous information, DeviceInfo, the manufacturer's key, and the hash of the device's certificate chain
 -- or null.
 use Rattle.std.specs.Prelude.{◌≡◌, IfSome, length, ℕ, List, [], ◌∷◌, Bool, false, Option, Some, None, if◌then◌else◌, ◌==◌, is_some, Result}

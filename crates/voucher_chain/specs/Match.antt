@@ -1,4 +1,4 @@
--- Device credentials and the vouchers that they match (FIDO Device Onboard 1.1, section 3.4.2).
+-- Device credentials (FIDO Device Onboard 1.1, section 3.4.1) and the vouchers that they match.
 use Rattle.std.specs.Prelude.{◌≡◌, ℕ, pos, List, Some, option_map}
 use Rattle.hash_hmac.specs.declared.hash.Hash.{Hash}
 use Rattle.hash_hmac.specs.Hashing.{hashed}

@@ -1,4 +1,4 @@
--- Ownership vouchers (FIDO Device Onboard 1.1, section 3.4.1): an array of the version, the bytes of the header, the
+-- Ownership vouchers (FIDO Device Onboard 1.1, section 3.4.2): an array of the version, the bytes of the header, the
 -- header's HMAC, the device's certificates or null, and the entries.
 use Rattle.std.specs.Prelude.{ℕ, pos, ℤ, List, [], ◌∷◌, ◌++◌, length, map, flat_map, Bool, false, ◌||◌, Option, Some, None, if◌then◌else◌, is_some, is_none}
 use Rattle.std.specs.Ordering.{int_eq}

@@ -5,7 +5,7 @@ use crate::voucher::Voucher;
 use cbor_core::{Blob, NoMemory, Text};
 use hash_hmac::{HMac, Hash, hash_of, hmac_of};
 
-/// What a device keeps of its voucher (FIDO Device Onboard 1.1, section 3.4.2, "DeviceCredential").
+/// What a device keeps of its voucher (FIDO Device Onboard 1.1, section 3.4.1, "DeviceCredential").
 #[derive(Debug, Drop)]
 pub struct Credential {
     pub guid: [u8; 16],

@@ -12,7 +12,7 @@ use hash_hmac::Hash;
 use key_codec::{PublicKey, hash_item, key_item};
 use std::alloc::Global;
 
-/// An entry of an ownership voucher (FIDO Device Onboard 1.1, section 3.4.1, "OVEntry").
+/// An entry of an ownership voucher (FIDO Device Onboard 1.1, section 3.4.2, "OVEntry").
 #[derive(Debug, Drop)]
 pub struct Entry {
     /// Its bytes as received, with its tag where it has one. They spell the other fields.

@@ -19,7 +19,7 @@ use key_codec::{
 };
 use std::alloc::Global;
 
-/// The header of an ownership voucher (FIDO Device Onboard 1.1, section 3.4.1, "OVHeader").
+/// The header of an ownership voucher (FIDO Device Onboard 1.1, section 3.4.2, "OVHeader").
 #[derive(Debug, Drop)]
 pub struct Header {
     /// Its bytes as received, which spell the other fields.

@@ -75,7 +75,7 @@ pub(crate) fn copy_entries(alloc: Global, entries: &[Entry]) -> Result<Vec<Entry
     Ok(all)
 }
 
-/// An ownership voucher (FIDO Device Onboard 1.1, section 3.4.1).
+/// An ownership voucher (FIDO Device Onboard 1.1, section 3.4.2).
 #[derive(Debug, Drop)]
 pub struct Voucher {
     /// Its bytes as received, which spell the other fields.

@@ -1,4 +1,4 @@
--- The bytes of the owners' keys in a voucher as they were received (FIDO Device Onboard 1.1, section 3.4.1).
+-- The bytes of the owners' keys in a voucher as they were received (FIDO Device Onboard 1.1, section 3.4.2).
 use Rattle.std.specs.Prelude.{ℕ, false, List, [], ◌∷◌, Option, Some, None, Result, Ok, Err}
 use Rattle.cbor_core.specs.declared.fault.CborFault.{CborFault}
 use Rattle.cbor_core.specs.declared.item.Item.{Item}
