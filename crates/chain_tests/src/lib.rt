@@ -6,6 +6,8 @@ mod break_rows;
 #[cfg(test)]
 mod break_tests;
 #[cfg(test)]
+mod copy_tests;
+#[cfg(test)]
 mod credential_tests;
 #[cfg(test)]
 mod extend_tests;

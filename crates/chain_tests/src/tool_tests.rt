@@ -10,7 +10,7 @@ use voucher_tool::{check, extend_file, refusal, show};
 
 // ---- what is shown
 
-fn is_shown(rt: &HostRuntime, voucher: &Voucher, text: &str) -> bool {
+pub(crate) fn is_shown(rt: &HostRuntime, voucher: &Voucher, text: &str) -> bool {
     match show(rt.alloc(), voucher) {
         Ok(shown) => shown.as_list() == text.as_bytes(),
         Err(_) => false,
