@@ -19,9 +19,11 @@ mod tests {
         };
         let bytes = hex::encode(rt.alloc(), hash.bytes.as_slice())?;
         let wanted = format!(in rt.alloc(); "{value:0<96}")?;
-        Ok(hash.kind == kind
-            && hash.len as usize == value.len() / 2
-            && bytes.as_str() == wanted.as_str())
+        Ok(
+            hash.kind == kind
+                && hash.len as usize == value.len() / 2
+                && bytes.as_str() == wanted.as_str(),
+        )
     }
 
     #[test]

@@ -272,11 +272,7 @@ mod tests {
         "FDO-LAB-CERt",
     ];
 
-    static ISSUED: [&[u8]; 3] = [
-        b"\x83",
-        b"\x83\x01\x00\x40",
-        b"\x83\x0b\x02\x81\x41\x01",
-    ];
+    static ISSUED: [&[u8]; 3] = [b"\x83", b"\x83\x01\x00\x40", b"\x83\x0b\x02\x81\x41\x01"];
 
     #[test]
     fn certificates(rt: HostRuntime) -> Result<(), Fail> {
