@@ -40,6 +40,55 @@ impl RandomSource for Broken {
     }
 }
 
+/// A reader at its end, and a writer that takes all, but for the first call, which fails.
+#[derive(Debug, Drop)]
+struct Late {
+    failed: bool,
+}
+
+impl Late {
+    fn call(&mut self) -> io::Result<()> {
+        if self.failed {
+            return Ok(());
+        }
+        self.failed = true;
+        Err(io::Error::from(io::ErrorKind::Interrupted))
+    }
+}
+
+impl Read for Late {
+    fn read(&mut self, _into: &mut [u8]) -> io::Result<usize> {
+        match self.call() {
+            Ok(()) => Ok(0),
+            Err(fault) => Err(fault),
+        }
+    }
+}
+
+impl Write for Late {
+    fn write(&mut self, piece: &[u8]) -> io::Result<usize> {
+        match self.call() {
+            Ok(()) => Ok(piece.len()),
+            Err(fault) => Err(fault),
+        }
+    }
+
+    fn flush(&mut self) -> io::Result<()> {
+        Ok(())
+    }
+}
+
+/// A random source that is not one: all its bytes are 7.
+#[derive(Debug, Drop)]
+struct Sevens;
+
+impl RandomSource for Sevens {
+    fn fill_bytes(&self, into: &mut [u8]) -> io::Result<()> {
+        into.fill(7);
+        Ok(())
+    }
+}
+
 /// A writer that takes nothing more.
 #[derive(Debug, Drop)]
 struct Full;
@@ -87,6 +136,20 @@ fn draws_differ(rt: HostRuntime) {
     assert!(rt; first.is_ok() && second.is_ok() && first != second);
     let mut broken = SystemRandom::new(Broken);
     assert_eq!(rt; broken.draw16(), Err(Failed));
+    let mut sevens = SystemRandom::new(Sevens);
+    assert_eq!(rt; sevens.draw16(), Ok([7; 16]));
+}
+
+/// A call that fails is a failure, and is not made again.
+#[test]
+fn failures_are_told_at_once(rt: HostRuntime) {
+    let mut into = [0; 6];
+    let mut source = StdSource::new(Late { failed: false });
+    assert_eq!(rt; source.read(&mut into), Err(Failed));
+    assert_eq!(rt; source.read(&mut into), Ok(0));
+    let mut sink = StdSink::new(Late { failed: false });
+    assert_eq!(rt; sink.write_some(b"xy"), Err(Failed));
+    assert_eq!(rt; sink.write_some(b"xy"), Ok(2));
 }
 
 /// Words that one space each parts.
