@@ -36,6 +36,10 @@ pub fn answer<I: Source, O: Sink, S: Suite, N: Random>(
         ⊎ SuiteRises (S.Holder.faults suite.old) (S.Holder.faults suite.new) }
     // The keys that the suite held are held still.
     ensures held { (key : List ℕ) → S.Holder.held suite.old key ≡ true → S.Holder.held suite.new key ≡ true }
+    ensures input_written { I.Channel.written input.new ≡ I.Channel.written input.old }
+    ensures input_write_faults { I.Channel.write_faults input.new ≡ I.Channel.write_faults input.old }
+    ensures output_left { O.Channel.left output.new ≡ O.Channel.left output.old }
+    ensures output_read_faults { O.Channel.read_faults output.new ≡ O.Channel.read_faults output.old }
 {
     match OwnWord::of(words) {
         Some(word) => match word.answer(output) {

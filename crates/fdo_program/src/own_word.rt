@@ -32,6 +32,8 @@ impl OwnWord {
     pub fn answer<O: Sink>(self, output: &mut O) -> Result<(), Failed>
         ensures bytes { WritesAll (O.Channel.written output.old) (O.Channel.written output.new) (own_text self) result }
         ensures faults { Counts (O.Channel.write_faults output.old) (O.Channel.write_faults output.new) result }
+        ensures left { O.Channel.left output.new ≡ O.Channel.left output.old }
+        ensures read_faults { O.Channel.read_faults output.new ≡ O.Channel.read_faults output.old }
     {
         write_all(output, self.text().as_bytes())
     }
