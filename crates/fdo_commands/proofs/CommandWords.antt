@@ -1,6 +1,6 @@
 -- The words of a command.
 use Rattle.std.proofs.Common.{◌≡◌, ℕ, ◌<◌, ◌≤◌, List, [], ◌∷◌, length, slice_index_or, Option, Some, None, Result, Ok, Err, refl, sym, ◌∙◌, subst, arith}
-use Rattle.std.specs.Prelude.{IfOk, codes}
+use Rattle.std.specs.Prelude.{IfOk, IfErr, codes}
 use Rattle.cbor_core.specs.Whole.{whole}
 use Rattle.cbor_core.specs.declared.item.Item.{Item}
 use Rattle.key_codec.specs.declared.fault.KeyFault.{KeyFault}
@@ -8,7 +8,7 @@ use Rattle.key_codec.specs.declared.key.PublicKey.{PublicKey}
 use Rattle.key_codec.specs.Fault.{ok_of}
 use Rattle.key_codec.specs.Key.{IsKey, key_in}
 use Rattle.key_codec.proofs.Said.{key_said as key_is}
-use Rattle.fdo_commands.specs.Commands.{Finds, FindsExtend, Names, extend_of, extend_said, step_rendezvous, voucher_check, voucher_extend, voucher_show}
+use Rattle.fdo_commands.specs.Commands.{Finds, FindsExtend, IsExtendForm, Names, extend_of, extend_said, step_rendezvous, voucher_check, voucher_extend, voucher_show}
 use Rattle.fdo_commands.specs.KeyWords.{bytes_said, key_of_bytes, key_of_item, key_said}
 use Rattle.fdo_commands.specs.declared.command.Command.{Command}
 use Rattle.fdo_commands.specs.declared.command.Command.TheVariants.{StepRendezvous, VoucherShow, VoucherCheck, VoucherExtend}
@@ -52,6 +52,11 @@ pub finds_said : {E : Type 0} (words : List (List ℕ)) (key private : List ℕ)
 finds_said words key private all (Ok command) is =
     subst (FindsExtend words) (sym is) (finds_extend words key private all (key_said key) refl (bytes_said private) refl)
 finds_said words key private all (Err e) is = tt
+
+-- and where memory runs out they are of the form
+pub form_said : {T E : Type 0} (words : List (List ℕ)) (key private : List ℕ) → words ≡ voucher_extend key private → (found : Result T E) → IfErr found (λ _. IsExtendForm words)
+form_said words key private all (Ok x) = tt
+form_said words key private all (Err e) = (key, private, all)
 
 -- no other command is named
 module _ (words : List (List ℕ)) (step : words ≡ step_rendezvous → ⊥) (show : words ≡ voucher_show → ⊥) (check : words ≡ voucher_check → ⊥) where
