@@ -1,11 +1,11 @@
 -- Parts of a known form: null, arrays of a known length, strings of a known length, and the labels of maps.
-use Rattle.std.specs.Prelude.{ℕ, ℤ, List, [], ◌∷◌, length, ◌==◌, Bool, true, false, if◌then◌else◌, Option, Some, None, option_and_then}
+use Rattle.std.specs.Prelude.{ℕ, ℤ, List, [], ◌∷◌, length, ◌==◌, Bool, true, false, if◌then◌else◌, Option, Some, None, option_and_then, is_some}
 use Rattle.std.specs.Ordering.{int_eq}
 use Rattle.cbor_core.specs.declared.item.Item.{Item, out-Item}
 use Rattle.cbor_core.specs.declared.item.Item.TheOpen.{Item-F}
 use Rattle.cbor_core.specs.declared.item.Item.TheVariants as items
 use Rattle.cbor_core.specs.Numbers.{integer_in}
-use Rattle.cbor_core.specs.Spots.{Spot, spot_item, spot_parts}
+use Rattle.cbor_core.specs.Spots.{Spot, spot_item, spot_parts, bytes_in, text_in}
 
 -- null (RFC 8949, section 3.3)
 abbrev pub null : Item
@@ -14,6 +14,13 @@ null = items.Simple 22
 abbrev pub is_null : Item-F Item → Bool
 is_null (Item-F.Simple n) = n == 22
 is_null _ = false
+
+-- a byte string, and a text (RFC 8949, section 3.1)
+abbrev pub is_bytes : Item-F Item → Bool
+is_bytes f = is_some (bytes_in f)
+
+abbrev pub is_text : Item-F Item → Bool
+is_text f = is_some (text_in f)
 
 -- bytes of a known length
 abbrev pub of_length : ℕ → List ℕ → Option (List ℕ)

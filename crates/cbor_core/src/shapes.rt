@@ -4,7 +4,7 @@ ghost use Rattle.std.specs.Prelude.{◌≡◌, option_map};
 ghost use Rattle.cbor_core.specs.declared.item.Item.{out-Item};
 ghost use Rattle.cbor_core.specs.Numbers.{integer_in};
 ghost use Rattle.cbor_core.specs.Spots.{spot_item, spot_parts};
-ghost use Rattle.cbor_core.specs.Shapes.{is_null as is_null_item, is_array as is_array_item, is_map as is_map_item, of_length, two_items, three_items, four_items, five_items, six_items, two_spots, three_spots, four_spots, five_spots, six_spots, tagged_in, tagged_at, labelled_in, labelled_at, labelled_spot};
+ghost use Rattle.cbor_core.specs.Shapes.{is_null as is_null_item, is_bytes as is_bytes_item, is_text as is_text_item, is_array as is_array_item, is_map as is_map_item, of_length, two_items, three_items, four_items, five_items, six_items, two_spots, three_spots, four_spots, five_spots, six_spots, tagged_in, tagged_at, labelled_in, labelled_at, labelled_spot};
 
 use crate::part::Part;
 
@@ -42,12 +42,28 @@ impl<'a> Part<'a> {
         }
     }
 
+    /// Whether it is a byte string (RFC 8949, section 3.1).
+    pub fn is_bytes(&self) -> bool
+        ensures { result ≡ is_bytes_item (out-Item (spot_item self.now.spot)) }
+    {
+        self.major() == 2
+    }
+
+    /// Whether it is a text (RFC 8949, section 3.1).
+    pub fn is_text(&self) -> bool
+        ensures { result ≡ is_text_item (out-Item (spot_item self.now.spot)) }
+    {
+        self.major() == 3
+    }
+
+    /// Whether it is an array (RFC 8949, section 3.1).
     pub fn is_array(&self) -> bool
         ensures { result ≡ is_array_item (out-Item (spot_item self.now.spot)) }
     {
         self.major() == 4
     }
 
+    /// Whether it is a map (RFC 8949, section 3.1).
     pub fn is_map(&self) -> bool
         ensures { result ≡ is_map_item (out-Item (spot_item self.now.spot)) }
     {

@@ -2,6 +2,7 @@
 use crate::voucher_rows::{FIVE, NO_ENTRIES, STRONG};
 use cbor_core::{Blob, Text};
 use hash_hmac::{Hash, hash_of};
+use std::test::Fail;
 use voucher_chain::{Credential, Voucher, matches, read_voucher};
 
 /// The kind of HMAC of a credential, the kind of its key hash, the bits that are changed of its secret, its GUID and its
@@ -126,4 +127,29 @@ fn a_credential_matches_its_voucher(rt: HostRuntime) {
     assert!(rt; are_matched_of(&rt, FIVE, &CREDENTIALS));
     assert!(rt; are_matched_of(&rt, NO_ENTRIES, &CREDENTIALS));
     assert!(rt; are_matched_of(&rt, STRONG, &STRONG_CREDENTIALS));
+}
+
+/// The text of a credential has its GUID and its kind of HMAC, and no byte of its secret.
+#[test]
+fn a_credential_is_printed_without_its_secret(rt: HostRuntime) -> Result<(), Fail> {
+    let alloc = rt.alloc();
+    let key_hash = hash_of(-16, b"key", b"");
+    match key_hash {
+        Some(key_hash) => {
+            let credential = Credential {
+                guid: [7; 16],
+                rv: Blob::new(Vec::new(alloc)),
+                info: Text::from_str(alloc, "lab")?,
+                secret: [201; 32],
+                key_hash,
+                alg: 5,
+            };
+            let text = format!(in alloc; "{credential:?}")?;
+            assert!(rt; text.as_str().contains("guid: [7, 7,"));
+            assert!(rt; text.as_str().ends_with("alg: 5, .. }"));
+            assert!(rt; !text.as_str().contains("201, 201"));
+        }
+        None => assert!(rt; false, "-16 is a kind of hash"),
+    }
+    Ok(())
 }

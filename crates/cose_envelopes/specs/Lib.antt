@@ -1,3 +1,4 @@
+pub mod Asking
 pub mod Envelope
 pub mod Fault
 pub mod Opening

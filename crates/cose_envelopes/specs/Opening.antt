@@ -5,7 +5,7 @@ use Rattle.std.specs.Str.{bytes_eq}
 use Rattle.cbor_core.specs.Deterministic.{det}
 use Rattle.cbor_core.specs.Whole.{said_at}
 use Rattle.hash_hmac.specs.Hmac.{hmac_sha256}
-use Rattle.suite_port.specs.Answer.{Rises}
+use Rattle.port_base.specs.Count.{Rises}
 use Rattle.cose_envelopes.specs.declared.encrypt0.Encrypt0.{Encrypt0}
 use Rattle.cose_envelopes.specs.declared.mac0.Mac0.{Mac0}
 use Rattle.cose_envelopes.specs.declared.sign1.Sign1.{Sign1}

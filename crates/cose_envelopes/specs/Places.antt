@@ -2,9 +2,9 @@
 -- inside a byte string has the offset of that string's head.
 use Rattle.std.specs.Prelude.{ℕ, pos, Bool, Option, Some, None, is_some, if◌then◌else◌}
 use Rattle.cbor_core.specs.declared.item.Item.{out-Item}
-use Rattle.cbor_core.specs.Shapes.{is_map, three_spots, four_spots, labelled_at, tagged_at}
+use Rattle.cbor_core.specs.Shapes.{is_bytes, is_map, three_spots, four_spots, labelled_at, tagged_at}
 use Rattle.cbor_core.specs.Spots.{Spot, spot_item}
-use Rattle.cose_envelopes.specs.Envelope.{bytes_of, header_in, iv_in}
+use Rattle.cose_envelopes.specs.Envelope.{header_in, iv_in}
 
 abbrev pub spot_or : Spot → Option Spot → Spot
 spot_or s None = s
@@ -13,10 +13,7 @@ spot_or s (Some content) = content
 abbrev pub content_at : ℕ → Spot → Spot
 content_at tag s = spot_or s (tagged_at tag s)
 
--- a byte string, and one that holds a protected header
-abbrev pub is_bytes : Spot → Bool
-is_bytes s = is_some (bytes_of (spot_item s))
-
+-- a byte string that holds a protected header
 abbrev pub is_protected : Spot → Bool
 is_protected s = is_some (header_in (spot_item s))
 
@@ -27,7 +24,7 @@ four_place at None = at
 four_place at (Some parts) =
     if is_protected parts.0 then
     if is_map (out-Item (spot_item parts.1)) then
-    if is_bytes parts.2 then parts.3.at
+    if is_bytes (out-Item (spot_item parts.2)) then parts.3.at
     else parts.2.at
     else parts.1.at
     else parts.0.at

@@ -5,7 +5,7 @@ ghost use Rattle.cbor_core.specs.declared.item.Item.{out-Item};
 ghost use Rattle.cbor_core.specs.Spots.{spot_item};
 ghost use Rattle.cbor_core.specs.Shapes.{pairs_layer};
 ghost use Rattle.cose_envelopes.specs.Envelope.{algorithm_in, header_in, iv_in};
-ghost use Rattle.cose_envelopes.specs.Places.{content_at, content_place, is_protected as is_a_header, is_bytes as is_a_string, iv_place};
+ghost use Rattle.cose_envelopes.specs.Places.{content_at, content_place, is_protected as is_a_header, iv_place};
 
 use crate::protected::algorithm;
 use cbor_core::{Blob, Item, NoMemory, Pairs, Part, exactly};
@@ -57,12 +57,6 @@ pub(crate) fn read_iv(alloc: Global, part: &Part) -> Result<Option<[u8; 12]>, No
     }
 }
 
-pub(crate) fn is_bytes(part: &Part) -> bool
-    ensures { result ≡ is_a_string part.now.spot }
-{
-    part.major() == 2
-}
-
 /// Whether a part is a byte string that holds a protected header.
 pub fn is_protected(alloc: Global, part: &Part) -> Result<bool, NoMemory>
     ensures { IfOk result (λ is. is ≡ is_a_header part.now.spot) }
@@ -93,7 +87,7 @@ fn find_content_fault(alloc: Global, content: &Part) -> Result<usize, NoMemory>
         Ok(protected.at())
     } else if !unprotected.is_map() {
         Ok(unprotected.at())
-    } else if !is_bytes(&payload) {
+    } else if !payload.is_bytes() {
         Ok(payload.at())
     } else {
         Ok(last.at())

@@ -1,5 +1,8 @@
-ghost use Rattle.std.specs.Prelude.{◌≡◌, ◌≤◌, ◌*◌, ◌/◌, ◌⊎◌, length, Some, Ok, IfOk};
+ghost use Rattle.std.specs.Prelude.{◌≡◌, ◌≤◌, ◌*◌, ◌/◌, ◌⊎◌, ℕ, length, None, Some, Ok, IfOk};
 ghost use Rattle.std.specs.Option.{option_map};
+ghost use Rattle.suite_port.specs.Asked.{Asks};
+ghost use Rattle.suite_port.specs.Asked.Ask.{Opened};
+ghost use Rattle.cose_envelopes.specs.Asking.{AsksOrGivesUp, AsksToOpen, AsksToSeal, asked_to_open, opening_of, sealing};
 ghost use Rattle.cose_envelopes.specs.Envelope.{IsWhole0};
 ghost use Rattle.cose_envelopes.specs.Fault.{Answers, known};
 ghost use Rattle.cose_envelopes.specs.Opening.{key_front, sealed_value, sealed_bytes, encrypt0_at, opened, opened_by, opening};
@@ -30,6 +33,8 @@ pub fn seal<S: Suite>(
     ensures opened { IfOk result (λ bytes. opening S.Aead.bits S.Aead.opens alg key.now bytes ≡ Ok (iv.now, plain.now)) }
     ensures held { S.Holder.held suite.new ≡ S.Holder.held suite.old }
     ensures faults { S.Holder.faults suite.new ≡ S.Holder.faults suite.old }
+    ensures asked { (bits : ℕ) → S.Aead.bits alg ≡ Some bits → AsksToSeal (S.Holder.asked suite.old) (S.Holder.asked suite.new) (sealing alg (key_front bits key.now) iv.now plain.now) result }
+    ensures unasked { S.Aead.bits alg ≡ None → S.Holder.asked suite.new ≡ S.Holder.asked suite.old }
 {
     match suite.key_bits(alg) {
         Some(bits) => match seal_with(alloc, suite, alg, bits, key, iv, plain) {
@@ -57,6 +62,7 @@ pub(crate) fn seal_with<S: Suite>(
     ensures opened { IfOk result (λ bytes. opening S.Aead.bits S.Aead.opens alg key.now bytes ≡ Ok (iv.now, plain.now)) }
     ensures held { S.Holder.held suite.new ≡ S.Holder.held suite.old }
     ensures faults { S.Holder.faults suite.new ≡ S.Holder.faults suite.old }
+    ensures asked { AsksOrGivesUp (S.Holder.asked suite.old) (S.Holder.asked suite.new) (sealing alg (key_front bits key.now) iv.now plain.now) result }
 {
     let value = seal_value(alloc, suite, alg, bits, key, iv, plain)?;
     write_encrypt0(alloc, &value)
@@ -79,6 +85,7 @@ fn seal_value<S: Suite>(
     ensures whole { IfOk result IsWhole0 }
     ensures held { S.Holder.held suite.new ≡ S.Holder.held suite.old }
     ensures faults { S.Holder.faults suite.new ≡ S.Holder.faults suite.old }
+    ensures asked { Asks (S.Holder.asked suite.old) (S.Holder.asked suite.new) (sealing alg (key_front bits key.now) iv.now plain.now) result }
 {
     let protected = protected(alloc, alg)?;
     let aad = encrypt0_text(alloc, protected.as_list())?;
@@ -117,6 +124,7 @@ pub fn open<S: Suite>(
     ensures answer { Answers (opening S.Aead.bits S.Aead.opens alg key.now bytes.now) result }
     ensures held { S.Holder.held suite.new ≡ S.Holder.held suite.old }
     ensures faults { S.Holder.faults suite.new ≡ S.Holder.faults suite.old }
+    ensures asked { AsksToOpen (S.Holder.asked suite.old) (S.Holder.asked suite.new) (asked_to_open S.Aead.bits alg key.now bytes.now) result }
 {
     match read_encrypt0(alloc, bytes) {
         Ok(value) => open_value(alloc, suite, alg, key, &value),
@@ -134,6 +142,7 @@ fn open_value<S: Suite>(
     ensures answer { Answers (opened_by S.Aead.opens alg key.now value.now (S.Aead.bits alg)) result }
     ensures held { S.Holder.held suite.new ≡ S.Holder.held suite.old }
     ensures faults { S.Holder.faults suite.new ≡ S.Holder.faults suite.old }
+    ensures asked { AsksToOpen (S.Holder.asked suite.old) (S.Holder.asked suite.new) (opening_of alg key.now value.now (S.Aead.bits alg)) result }
 {
     match suite.key_bits(alg) {
         Some(bits) => {
@@ -160,6 +169,7 @@ fn open_with<S: Suite>(
     ensures answer { Answers (opened value.now.iv (S.Aead.opens alg (key_front bits key.now) value.now.iv (encrypt0_structure value.now.protected) value.now.sealed)) result }
     ensures held { S.Holder.held suite.new ≡ S.Holder.held suite.old }
     ensures faults { S.Holder.faults suite.new ≡ S.Holder.faults suite.old }
+    ensures asked { AsksToOpen (S.Holder.asked suite.old) (S.Holder.asked suite.new) (Some (Opened alg (key_front bits key.now) value.now.iv (encrypt0_structure value.now.protected) value.now.sealed)) result }
 {
     let aad = encrypt0_text(alloc, value.protected.as_list())?;
     let front = front(bits, key);

@@ -1,8 +1,9 @@
-ghost use Rattle.std.specs.Prelude.{◌≡◌, ◌≤◌, ◌<◌, ◌^◌, negsuc, drop, length, take, Some, Ok, IfOk};
+ghost use Rattle.std.specs.Prelude.{◌≡◌, ◌≤◌, ◌<◌, ◌^◌, ℕ, negsuc, drop, length, take, None, Some, Ok, IfOk};
 ghost use Rattle.std.specs.Option.{option_map};
 ghost use Rattle.std.specs.Str.{bytes_eq};
 ghost use Rattle.cbor_core.specs.Deterministic.{det};
 ghost use Rattle.hash_hmac.specs.Hmac.{hmac_sha256};
+ghost use Rattle.cose_envelopes.specs.Asking.{AsksOrGivesUp, AsksToOpen, AsksToSeal, asked_to_open, asked_to_open_etm, opening_of_mac, sealing};
 ghost use Rattle.cose_envelopes.specs.Envelope.{item_of_mac0, IsWholeMac};
 ghost use Rattle.cose_envelopes.specs.Fault.{Answers, known};
 ghost use Rattle.cose_envelopes.specs.Opening.{inner_number, maced_value, mac0_at, sealed_bytes, sealed_etm, opening, opening_etm, opened_mac, or_not_opened};
@@ -38,6 +39,8 @@ pub fn seal_etm<S: Suite>(
     ensures opened { IfOk result (λ bytes. opening_etm S.Aead.bits S.Aead.opens alg key.now bytes ≡ Ok (iv.now, plain.now)) }
     ensures held { S.Holder.held suite.new ≡ S.Holder.held suite.old }
     ensures faults { S.Holder.faults suite.new ≡ S.Holder.faults suite.old }
+    ensures asked { (bits : ℕ) → S.Aead.bits alg ≡ Some bits → AsksToSeal (S.Holder.asked suite.old) (S.Holder.asked suite.new) (sealing inner_number (take 16 key.now) iv.now plain.now) result }
+    ensures unasked { S.Aead.bits alg ≡ None → S.Holder.asked suite.new ≡ S.Holder.asked suite.old }
 {
     match suite.key_bits(alg) {
         Some(bits) => match seal_both(alloc, suite, bits, key, iv, plain) {
@@ -63,6 +66,7 @@ fn seal_both<S: Suite>(
     ensures opened { IfOk result (λ bytes. opening_etm S.Aead.bits S.Aead.opens (negsuc 65538) key.now bytes ≡ Ok (iv.now, plain.now)) }
     ensures held { S.Holder.held suite.new ≡ S.Holder.held suite.old }
     ensures faults { S.Holder.faults suite.new ≡ S.Holder.faults suite.old }
+    ensures asked { AsksOrGivesUp (S.Holder.asked suite.old) (S.Holder.asked suite.new) (sealing inner_number (take 16 key.now) iv.now plain.now) result }
 {
     let payload = seal_with(alloc, suite, INNER, 128, key, iv, plain)?;
     write_maced(alloc, key, payload)
@@ -120,6 +124,7 @@ pub fn open_etm<S: Suite>(
     ensures answer { Answers (opening_etm S.Aead.bits S.Aead.opens alg key.now bytes.now) result }
     ensures held { S.Holder.held suite.new ≡ S.Holder.held suite.old }
     ensures faults { S.Holder.faults suite.new ≡ S.Holder.faults suite.old }
+    ensures asked { AsksToOpen (S.Holder.asked suite.old) (S.Holder.asked suite.new) (asked_to_open_etm S.Aead.bits alg key.now bytes.now) result }
 {
     match read_mac0(alloc, bytes) {
         Ok(value) => open_mac(alloc, suite, alg, key, &value),
@@ -137,6 +142,7 @@ fn open_mac<S: Suite>(
     ensures answer { Answers (opened_mac S.Aead.bits S.Aead.opens alg key.now value.now) result }
     ensures held { S.Holder.held suite.new ≡ S.Holder.held suite.old }
     ensures faults { S.Holder.faults suite.new ≡ S.Holder.faults suite.old }
+    ensures asked { AsksToOpen (S.Holder.asked suite.old) (S.Holder.asked suite.new) (opening_of_mac S.Aead.bits alg key.now value.now) result }
 {
     if suite.key_bits(alg).is_none() || value.alg != HMAC_SHA256 {
         return Err(CoseFault::NoAlgorithm(alg));
@@ -167,6 +173,7 @@ fn open_inner<S: Suite>(
     ensures answer { Answers (or_not_opened (opening S.Aead.bits S.Aead.opens inner_number key.now bytes.now)) result }
     ensures held { S.Holder.held suite.new ≡ S.Holder.held suite.old }
     ensures faults { S.Holder.faults suite.new ≡ S.Holder.faults suite.old }
+    ensures asked { AsksToOpen (S.Holder.asked suite.old) (S.Holder.asked suite.new) (asked_to_open S.Aead.bits inner_number key.now bytes.now) result }
 {
     match open(alloc, suite, INNER, key, bytes) {
         Ok(both) => Ok(both),

@@ -1,4 +1,5 @@
 ghost use Rattle.std.specs.Prelude.{◌≡◌, Some, IfOk, true};
+ghost use Rattle.cose_envelopes.specs.Asking.{AsksToSign, AsksToVerify, verifying};
 ghost use Rattle.cose_envelopes.specs.Envelope.{algorithm_in, protected_of};
 ghost use Rattle.cose_envelopes.specs.Opening.{Counts, Refuses, Verifies};
 ghost use Rattle.cose_envelopes.specs.Text.{sign1_structure};
@@ -33,6 +34,7 @@ pub fn sign<S: Suite>(
     ensures refused { Refuses (S.Signer.algorithm key.now) result }
     ensures held { S.Holder.held suite.new ≡ S.Holder.held suite.old }
     ensures faults { Counts (S.Holder.faults suite.old) (S.Holder.faults suite.new) result }
+    ensures asked { AsksToSign (S.Holder.asked suite.old) (S.Holder.asked suite.new) key.now result }
 {
     let Some(alg) = suite.alg_of(key) else {
         return Err(CoseFault::NoAlgorithm(0));
@@ -64,6 +66,7 @@ pub fn verify<S: Suite>(
     ensures answer { Verifies value.now.alg (S.Verifier.verifies key.now value.now.alg (sign1_structure value.now.protected value.now.payload) value.now.sig) result }
     ensures held { S.Holder.held suite.new ≡ S.Holder.held suite.old }
     ensures faults { S.Holder.faults suite.new ≡ S.Holder.faults suite.old }
+    ensures asked { AsksToVerify (S.Holder.asked suite.old) (S.Holder.asked suite.new) (verifying key.now value.now) result }
 {
     let text = sign1_text(alloc, value.protected.as_list(), value.payload.as_list())?;
     match suite.verify(alloc, key, value.alg, text.as_list(), value.sig.as_list()) {

@@ -4,7 +4,7 @@ use Rattle.std.proofs.lemmas.Grind.{flat_map-append}
 use Rattle.std.proofs.lemmas.List.Folds.{list_any-append}
 use Rattle.std.proofs.lemmas.List.{append-nil, length-append, take-append-drop, take_all}
 use Rattle.std.proofs.Math.Seq.{drop-cons, take-append-add, take-suc}
-use Rattle.fdo_ports.specs.Told.{grown}
+use Rattle.port_base.specs.Told.{grown}
 use Rattle.fdo_ports.proofs.Grown.{grown_nothing, grown_twice}
 use Rattle.fdo_msgs.specs.Run.{Runs}
 use Rattle.fdo_msgs.proofs.RunMore.{runs_more}

@@ -2,7 +2,7 @@
 use Rattle.std.proofs.Common.{◌≡◌, inl, inr, ℕ, true, List, [], ◌∷◌, ◌++◌, flat_map, Option, Ok, Err, refl, sym, ap, ◌∙◌, subst}
 use Rattle.std.specs.Prelude.{codes}
 use Rattle.std.proofs.lemmas.Grind.{flat_map-append}
-use Rattle.fdo_ports.specs.Told.{grown}
+use Rattle.port_base.specs.Told.{grown}
 use Rattle.fdo_ports.proofs.Grown.{grown_nothing}
 use Rattle.fdo_msgs.specs.declared.answer.Answer.{Answer}
 use Rattle.fdo_msgs.specs.declared.packet.Packet.{Packet}

@@ -1,9 +1,9 @@
 -- How the command ends that gives a voucher one more entry.
 use Rattle.std.proofs.Common.{◌≡◌, ◌≢◌, ◌⊎◌, inl, inr, ℕ, ℤ, true, false, Bool, List, Option, Result, Ok, Err, refl, sym, ap, ◌∙◌, subst}
 use Rattle.std.specs.Prelude.{IfOk, IfErr, codes}
-use Rattle.fdo_ports.specs.Count.{Rises}
+use Rattle.port_base.specs.Count.{Rises}
 use Rattle.key_codec.specs.declared.key.PublicKey.{PublicKey}
-use Rattle.suite_port.specs.Answer.{Decides, Counts as SuiteCounts, Rises as SuiteRises}
+use Rattle.suite_port.specs.Answer.{Decides, Counts as SuiteCounts}
 use Rattle.suite_port.specs.Held.{Adds}
 use Rattle.suite_port.specs.declared.fault.SuiteFault.{SuiteFault}
 use Rattle.suite_port.specs.declared.fault.SuiteFault.TheVariants as suite
@@ -35,7 +35,7 @@ refused_extends verifies algorithm held next before now bytes f (Err e) is refus
 
 -- the suite's count of faults stays, or rises where the signer fails
 abbrev Quiet : ℕ → ℕ → Type 0
-Quiet before now = (now ≡ before) ⊎ SuiteRises before now
+Quiet before now = (now ≡ before) ⊎ Rises before now
 
 pub may_rise : (before now : ℕ) (f : ChainFault) → Counts {A = List ℕ} before now (Err f) → Quiet before now
 may_rise before now (fault.BadShape place) counts = inl counts
@@ -132,7 +132,7 @@ module _ (signs : Signing) (next : PublicKey) (private : List ℕ) (k k' : Keys)
     pub extend_write : ending ≡ status.Write → Rises before.write_faults after.write_faults
     extend_write is = text_write (Extends signs.verifies signs.algorithm k'.held next k.faults k'.faults) before after status.Write (at status.Write is).1.0 refl
 
-    pub extend_outside : ending ≡ status.Outside → SuiteRises k.faults k'.faults
+    pub extend_outside : ending ≡ status.Outside → Rises k.faults k'.faults
     extend_outside is = (at status.Outside is).1
 
   still_held : k' ≡ k → (key : List ℕ) → k.held key ≡ true → k'.held key ≡ true

@@ -1,7 +1,7 @@
 -- The count of failed draws over a run of the rendezvous server.
 use Rattle.std.proofs.Common.{◌≡◌, ◌≢◌, ℕ, ◌≤◌, Bool, true, false, ◌||◌, List, [], ◌∷◌, Result, Ok, Err, refl, sym, ap, ◌∙◌, subst, arith}
 use Rattle.std.specs.Prelude.{◌==◌, if◌then◌else◌}
-use Rattle.fdo_ports.specs.Count.{Rises}
+use Rattle.port_base.specs.Count.{Rises}
 use Rattle.fdo_ports.specs.Draw.{Drawn, Draws}
 use Rattle.fdo_ports.specs.declared.failed.Failed.{Failed}
 use Rattle.fdo_msgs.specs.Run.{Runs}

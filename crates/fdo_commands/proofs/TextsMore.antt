@@ -1,7 +1,7 @@
 -- How a command ends that writes one text for its whole input.
 use Rattle.std.proofs.Common.{◌≡◌, ◌≢◌, ℕ, List, Result, Ok, Err, sym, subst}
 use Rattle.std.specs.Prelude.{IfOk}
-use Rattle.fdo_ports.specs.Count.{Rises}
+use Rattle.port_base.specs.Count.{Rises}
 use Rattle.fdo_commands.specs.Ending.{Streams}
 use Rattle.fdo_commands.specs.Stream.{InputCounts, ReadsInput, TookAll}
 use Rattle.fdo_commands.specs.Texts.{InputFails, TextEnds, WritesFound, WritesTold}

@@ -1,8 +1,8 @@
 -- A role answers messages, and its answers are printed, a line each.
 use Rattle.std.specs.Prelude.{◌≡◌, ◌⊎◌, ℕ, ◌<◌, Bool, true, false, List, ◌∷◌, ◌++◌, length, take, flat_map, Option, Result, Ok, Err}
 use Rattle.std.specs.List.{list_any}
-use Rattle.fdo_ports.specs.Count.{Rises}
-use Rattle.fdo_ports.specs.Told.{grown}
+use Rattle.port_base.specs.Count.{Rises}
+use Rattle.port_base.specs.Told.{grown}
 use Rattle.fdo_msgs.specs.Run.{Runs}
 use Rattle.fdo_msgs.specs.declared.answer.Answer.{Answer}
 use Rattle.fdo_msgs.specs.declared.answer.Answer.TheVariants as answers

@@ -1,8 +1,10 @@
 -- How a command over message lines ends, status by status, whichever role it is: Steps is the role's step.
 use Rattle.std.specs.Prelude.{◌≡◌, ◌⊎◌, ℕ, ◌<◌, ◌≤◌, true, false, List, ◌++◌, length, flat_map, codes, Option, Result}
 use Rattle.std.specs.Fmt.{decimal}
-use Rattle.fdo_ports.specs.Count.{Counts, Rises}
-use Rattle.fdo_ports.specs.Told.{WritesAll, grown}
+use Rattle.fdo_ports.specs.Count.{Counts}
+use Rattle.port_base.specs.Count.{Rises}
+use Rattle.fdo_ports.specs.Told.{WritesAll}
+use Rattle.port_base.specs.Told.{grown}
 use Rattle.fdo_ports.specs.declared.failed.Failed.{Failed}
 use Rattle.fdo_msgs.specs.Run.{Runs}
 use Rattle.fdo_msgs.specs.declared.answer.Answer.{Answer}

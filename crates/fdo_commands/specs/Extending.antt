@@ -1,7 +1,7 @@
 -- How the command ends that gives a voucher one more entry.
 use Rattle.std.specs.Prelude.{◌≡◌, ◌⊎◌, ℕ, Bool, true, false, List, Option, codes}
 use Rattle.key_codec.specs.declared.key.PublicKey.{PublicKey}
-use Rattle.suite_port.specs.Answer.{Rises}
+use Rattle.port_base.specs.Count.{Rises}
 use Rattle.suite_port.specs.Held.{Adds}
 use Rattle.suite_port.specs.declared.fault.SuiteFault.{SuiteFault}
 use Rattle.suite_port.specs.declared.fault.SuiteFault.TheVariants as fault

@@ -1,6 +1,6 @@
 -- What a command did to the objects of the outside.
 use Rattle.std.specs.Prelude.{◌≡◌, ℕ, List}
-use Rattle.fdo_ports.specs.Count.{Rises}
+use Rattle.port_base.specs.Count.{Rises}
 use Rattle.rendezvous.specs.RvState.{RvGivesUp}
 use Rattle.rendezvous.specs.RvStep.{RvStep}
 use Rattle.fdo_commands.specs.Commands.{IsExtendForm}

@@ -2,7 +2,7 @@
 use Rattle.std.specs.Prelude.{◌≡◌, ℕ, ◌<◌, ◌≤◌, List, length, Option, Result, Ok, Err}
 use Rattle.std.specs.declared.vec.Vec.{Vec}
 use Rattle.std.specs.declared.alloc.Global.{Global}
-use Rattle.fdo_ports.specs.Count.{Rises}
+use Rattle.port_base.specs.Count.{Rises}
 use Rattle.fdo_ports.specs.Told.{IsAtEnd, before}
 use Rattle.fdo_commands.specs.declared.input.InputFault.{InputFault}
 use Rattle.fdo_commands.specs.declared.input.InputFault.TheVariants as faults

@@ -1,6 +1,6 @@
 -- How a command ends that writes one text for its whole input.
 use Rattle.std.specs.Prelude.{◌≡◌, ℕ, ◌<◌, ◌≤◌, List, length, codes, Option, Result, Ok, Err}
-use Rattle.fdo_ports.specs.Count.{Rises}
+use Rattle.port_base.specs.Count.{Rises}
 use Rattle.fdo_commands.specs.Answering.{CutShort}
 use Rattle.fdo_commands.specs.Ending.{EndsWith, Streams, Wrote, wrong_input}
 use Rattle.fdo_commands.specs.Stream.{Took, TookAll, most_bytes}

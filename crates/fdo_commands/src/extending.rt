@@ -1,6 +1,5 @@
 ghost use Rattle.std.specs.Prelude.{◌≡◌, ◌⊎◌, ℕ, List, true, false, IfOk, IfErr};
-ghost use Rattle.fdo_ports.specs.Count.{Rises};
-ghost use Rattle.suite_port.specs.Answer.{Rises as SuiteRises};
+ghost use Rattle.port_base.specs.Count.{Rises};
 ghost use Rattle.fdo_commands.specs.declared.status.Status.TheVariants as status;
 ghost use Rattle.fdo_commands.specs.Ending.{streams};
 ghost use Rattle.fdo_commands.specs.Extending.{EntryEnds, ExtendEnds, Unloaded};
@@ -41,7 +40,7 @@ pub(crate) fn voucher_extend<I: Source, O: Sink, S: Suite>(
         × (O.Channel.write_faults output.new ≡ O.Channel.write_faults output.old) }
     ensures read { result ≡ status.Read → Rises (I.Channel.read_faults input.old) (I.Channel.read_faults input.new) }
     ensures write { result ≡ status.Write → Rises (O.Channel.write_faults output.old) (O.Channel.write_faults output.new) }
-    ensures outside_failed { result ≡ status.Outside → SuiteRises (S.Holder.faults suite.old) (S.Holder.faults suite.new) }
+    ensures outside_failed { result ≡ status.Outside → Rises (S.Holder.faults suite.old) (S.Holder.faults suite.new) }
     ensures held { (key : List ℕ) → S.Holder.held suite.old key ≡ true → S.Holder.held suite.new key ≡ true }
     ensures input_written { I.Channel.written input.new ≡ I.Channel.written input.old }
     ensures input_write_faults { I.Channel.write_faults input.new ≡ I.Channel.write_faults input.old }
@@ -133,7 +132,7 @@ fn extend_bytes<S: Suite>(
     ensures told { IfOk result (Extends S.Verifier.verifies S.Signer.algorithm (S.Holder.held suite.old) next.now
         (S.Holder.faults suite.old) (S.Holder.faults suite.new) bytes.now) }
     ensures memory { IfErr result (λ _. (S.Holder.faults suite.new ≡ S.Holder.faults suite.old)
-        ⊎ SuiteRises (S.Holder.faults suite.old) (S.Holder.faults suite.new)) }
+        ⊎ Rises (S.Holder.faults suite.old) (S.Holder.faults suite.new)) }
     ensures held { S.Holder.held suite.new ≡ S.Holder.held suite.old }
 {
     match extend_file(alloc, suite, bytes, next) {

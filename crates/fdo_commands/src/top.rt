@@ -1,8 +1,7 @@
 ghost use Rattle.std.specs.Prelude.{◌≡◌, ◌≢◌, ◌⊎◌, ℕ, List, true};
 ghost use Rattle.fdo_commands.specs.declared.command.Command.{Command};
 ghost use Rattle.fdo_commands.specs.declared.status.Status.TheVariants as status;
-ghost use Rattle.fdo_ports.specs.Count.{Rises};
-ghost use Rattle.suite_port.specs.Answer.{Rises as SuiteRises};
+ghost use Rattle.port_base.specs.Count.{Rises};
 ghost use Rattle.fdo_commands.specs.Commands.{Names, Unloadable};
 ghost use Rattle.fdo_commands.specs.Outside.{outside, signing};
 ghost use Rattle.fdo_commands.specs.Ran.{Ran, RanUnnamed};
@@ -53,7 +52,7 @@ pub fn fdo<I: Source, O: Sink, S: Suite, N: Random>(
     ensures read { result ≡ status.Read → Rises (I.Channel.read_faults input.old) (I.Channel.read_faults input.new) }
     ensures write { result ≡ status.Write → Rises (O.Channel.write_faults output.old) (O.Channel.write_faults output.new) }
     ensures outside_failed { result ≡ status.Outside → Rises (N.faults random.old) (N.faults random.new)
-        ⊎ SuiteRises (S.Holder.faults suite.old) (S.Holder.faults suite.new) }
+        ⊎ Rises (S.Holder.faults suite.old) (S.Holder.faults suite.new) }
     // The keys that the suite held are held still.
     ensures held { (key : List ℕ) → S.Holder.held suite.old key ≡ true → S.Holder.held suite.new key ≡ true }
     ensures input_written { I.Channel.written input.new ≡ I.Channel.written input.old }
@@ -95,7 +94,7 @@ fn run<I: Source, O: Sink, S: Suite, N: Random>(
     ensures read { result ≡ status.Read → Rises (I.Channel.read_faults input.old) (I.Channel.read_faults input.new) }
     ensures write { result ≡ status.Write → Rises (O.Channel.write_faults output.old) (O.Channel.write_faults output.new) }
     ensures outside_failed { result ≡ status.Outside → Rises (N.faults random.old) (N.faults random.new)
-        ⊎ SuiteRises (S.Holder.faults suite.old) (S.Holder.faults suite.new) }
+        ⊎ Rises (S.Holder.faults suite.old) (S.Holder.faults suite.new) }
     ensures held { (key : List ℕ) → S.Holder.held suite.old key ≡ true → S.Holder.held suite.new key ≡ true }
     ensures input_written { I.Channel.written input.new ≡ I.Channel.written input.old }
     ensures input_write_faults { I.Channel.write_faults input.new ≡ I.Channel.write_faults input.old }

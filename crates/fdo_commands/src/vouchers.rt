@@ -1,5 +1,5 @@
 ghost use Rattle.std.specs.Prelude.{◌≡◌, ◌≤◌, ◌≢◌, length, IfOk};
-ghost use Rattle.fdo_ports.specs.Count.{Rises};
+ghost use Rattle.port_base.specs.Count.{Rises};
 ghost use Rattle.fdo_commands.specs.declared.status.Status.TheVariants as status;
 ghost use Rattle.fdo_commands.specs.declared.texts.Told.TheVariants as told;
 ghost use Rattle.fdo_commands.specs.Ending.{streams};

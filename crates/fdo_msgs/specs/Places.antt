@@ -1,12 +1,11 @@
 -- Where the first part stands that is not of its shape.
 use Rattle.std.specs.Prelude.{ℕ, ℤ, List, [], ◌∷◌, Bool, false, Option, Some, None, is_some, if◌then◌else◌}
 use Rattle.cbor_core.specs.declared.item.Item.{out-Item}
-use Rattle.cbor_core.specs.Spots.{Spot, spot_item, spot_parts, text_in}
+use Rattle.cbor_core.specs.Spots.{Spot, spot_item, spot_parts}
 use Rattle.key_codec.specs.Key.{form_of}
 use Rattle.cbor_core.specs.Numbers.{integer_in}
 use Rattle.key_codec.specs.Places.{is_type, encoded_place, hash_place, sig_info_place}
-use Rattle.cbor_core.specs.Shapes.{is_array}
-use Rattle.cbor_core.specs.Shapes.{five_spots}
+use Rattle.cbor_core.specs.Shapes.{is_array, is_text, five_spots}
 use Rattle.fdo_msgs.specs.declared.shape.Shape.{Shape}
 use Rattle.fdo_msgs.specs.declared.shape.Shape.TheVariants as shape
 
@@ -14,17 +13,14 @@ abbrev pub is_encoding : Option ℤ → Bool
 is_encoding None = false
 is_encoding (Some enc) = is_some (form_of enc)
 
-abbrev pub is_text : Spot → Bool
-is_text s = is_some (text_in (out-Item (spot_item s)))
-
 -- DeviceMfgInfo: an unknown type or encoding has the place of its number
 abbrev pub mfg_place_in : ℕ → Option (Spot × Spot × Spot × Spot × Spot) → ℕ
 mfg_place_in at None = at
 mfg_place_in at (Some p) =
     if is_type (integer_in (spot_item p.0)) then
     if is_encoding (integer_in (spot_item p.1)) then
-    if is_text p.2 then
-    if is_text p.3 then encoded_place (integer_in (spot_item p.1)) p.1 p.4
+    if is_text (out-Item (spot_item p.2)) then
+    if is_text (out-Item (spot_item p.3)) then encoded_place (integer_in (spot_item p.1)) p.1 p.4
     else p.3.at
     else p.2.at
     else p.1.at

@@ -6,6 +6,7 @@ use Rattle.cbor_core.specs.declared.fault.CborFault.{CborFault}
 use Rattle.cbor_core.specs.declared.fault.CborFault.TheVariants as cbor
 use Rattle.cbor_core.specs.Reading.{first_item}
 use Rattle.cbor_core.specs.Spots.{start}
+use Rattle.cbor_core.specs.Whole.{place_of}
 use Rattle.fdo_msgs.specs.declared.body.BodyFault.{BodyFault}
 use Rattle.fdo_msgs.specs.declared.body.BodyFault.TheVariants as faults
 use Rattle.fdo_msgs.specs.declared.field.Field.{Field}
@@ -13,16 +14,6 @@ use Rattle.fdo_msgs.specs.declared.msg.Msg.{Msg}
 use Rattle.fdo_msgs.specs.declared.shape.Shape.{Shape}
 use Rattle.fdo_msgs.specs.Row.{◌>>=◌, shapes_of, row_at, Reads}
 use Rattle.fdo_msgs.specs.Said.{message_of}
-
--- where a fault of CBOR stands
-abbrev pub place_of : CborFault → ℕ
-place_of (cbor.Truncated place) = place
-place_of (cbor.Malformed place) = place
-place_of (cbor.TooDeep place) = place
-place_of (cbor.Duplicate place) = place
-place_of (cbor.Float place) = place
-place_of (cbor.NotDeterministic place) = place
-place_of cbor.NoMemory = 0
 
 -- the message of the parts; the parts of a type always say one
 abbrev pub said_or : ℕ → Option Msg → Result Msg ℕ

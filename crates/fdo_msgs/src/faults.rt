@@ -1,7 +1,7 @@
 ghost use Rattle.std.specs.Prelude.{◌≡◌};
 ghost use Rattle.cbor_core.specs.Spots.{spot_item};
 ghost use Rattle.cbor_core.specs.Numbers.{integer_in};
-ghost use Rattle.fdo_msgs.specs.Places.{mfg_place, place_at, is_encoding as is_known_encoding, is_text as is_a_text};
+ghost use Rattle.fdo_msgs.specs.Places.{mfg_place, place_at, is_encoding as is_known_encoding};
 ghost use Rattle.cbor_core.specs.Shapes.{five_spots};
 
 use crate::shape::Shape;
@@ -32,9 +32,9 @@ fn find_mfg_fault(part: &Part) -> usize
         kind.at()
     } else if !is_encoding(&enc) {
         enc.at()
-    } else if !is_text(&serial) {
+    } else if !serial.is_text() {
         serial.at()
-    } else if !is_text(&info) {
+    } else if !info.is_text() {
         info.at()
     } else {
         find_encoded_fault(&enc, &body)
@@ -48,10 +48,4 @@ fn is_encoding(part: &Part) -> bool
         Some(enc) => Form::of(enc).is_some(),
         None => false,
     }
-}
-
-fn is_text(part: &Part) -> bool
-    ensures { result ≡ is_a_text part.now.spot }
-{
-    part.major() == 3
 }

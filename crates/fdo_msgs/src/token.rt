@@ -3,6 +3,7 @@ ghost use Rattle.std.specs.Prelude.{◌≡◌, ◌≤◌, ◌<◌, ◌↔◌, �
 use base64::engine::general_purpose::URL_SAFE_NO_PAD;
 use cbor_core::NoMemory;
 use std::alloc::Global;
+use std::fmt;
 use std::marker::Model;
 
 /// The most bytes that a token has.
@@ -10,7 +11,7 @@ pub const MOST_TOKEN_BYTES: usize = 1024;
 
 /// The value of the header field Authorization, by which a message names its session: 1 to 1,024 bytes
 /// (FIDO Device Onboard 1.1, section 4.3, HTTP binding).
-#[derive(Debug, Drop)]
+#[derive(Drop)]
 pub struct Token {
     value: Vec<u8>,
 }
@@ -23,6 +24,15 @@ impl Model for Token {
     ghost view = { λ t. t.value.items };
 
     ghost invariant = { λ t. (1 ≤ length t.value.items) × (length t.value.items ≤ 1024) };
+}
+
+/// Says how many bytes it has, and not which: whoever knows them can go on in the session.
+impl fmt::Debug for Token {
+    fn fmt<F: fmt::Write>(&self, f: &mut fmt::Formatter<F>) -> fmt::Result {
+        f.debug_struct("Token")
+            .field("bytes", &self.value.len())
+            .finish_non_exhaustive()
+    }
 }
 
 impl Token {
@@ -43,6 +53,15 @@ impl Token {
         ensures most { length self.now ≤ 1024 }
     {
         self.value.as_slice()
+    }
+
+    pub fn into_vec(self) -> Vec<u8>
+        ensures bytes { result.items ≡ self }
+        ensures some { 1 ≤ length result.items }
+        ensures most { length result.items ≤ 1024 }
+    {
+        let Token { value } = self;
+        value
     }
 
     pub fn copy(&self) -> Result<Token, NoMemory>

@@ -2,7 +2,8 @@
 use Rattle.std.proofs.Common.{◌≡◌, ℕ, ◌+◌, ◌≤◌, List, [], ◌++◌, Option, None, Some, length, take, drop, refl, ap, sym, ◌∙◌, append_assoc}
 use Rattle.std.proofs.lemmas.List.{append-nil, take_all}
 use Rattle.std.proofs.Math.Seq.{take-add}
-use Rattle.fdo_ports.specs.Told.{grown, before}
+use Rattle.fdo_ports.specs.Told.{before}
+use Rattle.port_base.specs.Told.{grown}
 
 pub grown_nothing : {X : Type 0} (told : Option (List X)) → grown told [] ≡ told
 grown_nothing None = refl

@@ -1,14 +1,6 @@
--- The count of an object's faults, which never falls.
-use Rattle.std.specs.Prelude.{◌≡◌, ℕ, ◌+◌, ◌-◌, ◌^◌, ◌≤◌, min, Result, Ok, Err}
-
--- the count rose, or stands at its last value
-abbrev pub Rose : ℕ → ℕ → Type 0
-Rose before now = min (before + 1) (2 ^ 64 - 1) ≤ now
-
--- a call failed: the count rose and did not fall
-pub record Rises (before now : ℕ) : Type 0 where
-  pub rose : Rose before now
-  pub later : before ≤ now
+-- What a call does to its object's count of faults.
+use Rattle.std.specs.Prelude.{◌≡◌, ℕ, Result, Ok, Err}
+use Rattle.port_base.specs.Count.{Rises}
 
 -- a call leaves the count where it succeeds, and raises it where it fails
 abbrev pub Counts : {T E : Type 0} → ℕ → ℕ → Result T E → Type 0

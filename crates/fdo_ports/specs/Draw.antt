@@ -1,7 +1,7 @@
 -- A source of random draws, as contracts see it.
 use Rattle.std.specs.Prelude.{◌≡◌, ℕ, List, [], ◌∷◌, Result, Ok, Err, Option}
-use Rattle.fdo_ports.specs.Count.{Rises}
-use Rattle.fdo_ports.specs.Told.{grown}
+use Rattle.port_base.specs.Count.{Rises}
+use Rattle.port_base.specs.Told.{grown}
 use Rattle.fdo_ports.specs.declared.failed.Failed.{Failed}
 
 -- the draws given so far, where they are told, and how many draws failed

@@ -1,5 +1,4 @@
 pub mod Count
 pub mod Told
-pub mod Scheduled
 pub mod MemoryObjects
 pub mod Draw

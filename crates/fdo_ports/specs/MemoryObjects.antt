@@ -4,7 +4,7 @@ use Rattle.std.specs.List.{flat_map}
 use Rattle.std.specs.Vec.{vec_capacity}
 use Rattle.std.specs.declared.vec.Vec.{Vec}
 use Rattle.std.specs.declared.alloc.Global.{Global}
-use Rattle.fdo_ports.specs.declared.calls.Calls.{Calls}
+use Rattle.port_base.specs.declared.calls.Calls.{Calls}
 use Rattle.fdo_ports.specs.declared.list_random.ListRandom.{ListRandom}
 use Rattle.fdo_ports.specs.declared.memory_sink.MemorySink.{MemorySink}
 use Rattle.fdo_ports.specs.declared.memory_source.MemorySource.{MemorySource}

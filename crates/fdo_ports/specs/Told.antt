@@ -1,14 +1,11 @@
--- What an object of the outside tells of its content; one that does not tell has None for it, before and after.
-use Rattle.std.specs.Prelude.{◌≡◌, ℕ, ◌<◌, ◌≤◌, List, [], ◌∷◌, ◌++◌, length, take, Result, Ok, Err, Option, None, Some}
+-- What a stream tells of its bytes; one that does not tell has None for them, before and after.
+use Rattle.std.specs.Prelude.{◌≡◌, ℕ, ◌<◌, ◌≤◌, List, [], ◌++◌, length, take, Result, Ok, Err, Option, None, Some}
 use Rattle.std.specs.Option.{option_map}
+use Rattle.port_base.specs.Told.{grown}
 
 -- the bytes left, behind some more
 abbrev pub before : List ℕ → Option (List ℕ) → Option (List ℕ)
 before bytes left = option_map (λ rest. bytes ++ rest) left
-
--- what was told, and more of it
-abbrev pub grown : {X : Type 0} → Option (List X) → List X → Option (List X)
-grown told more = option_map (λ xs. xs ++ more) told
 
 -- no byte is left, where that is told
 abbrev pub IsAtEnd : Option (List ℕ) → Type 0
@@ -33,8 +30,3 @@ Writes written written' piece (Err _) = written' ≡ written
 abbrev pub WritesAll : {T E : Type 0} → Option (List ℕ) → Option (List ℕ) → List ℕ → Result T E → Type 0
 WritesAll written written' text (Ok _) = written' ≡ grown written text
 WritesAll written written' text (Err _) = (n : ℕ) × (n < length text) × (written' ≡ grown written (take n text))
-
--- an answer is added to those that were given
-abbrev pub Answers : {X E : Type 0} → Option (List X) → Option (List X) → Result X E → Type 0
-Answers given given' (Ok answer) = given' ≡ grown given (answer ∷ [])
-Answers given given' (Err _) = given' ≡ given

@@ -1,7 +1,6 @@
 //! The outside as the program sees it: sources, sinks and random draws, each with a count of its faults.
 #![tactic(auto)]
 
-mod calls;
 pub mod channel;
 pub mod failed;
 pub mod list_random;

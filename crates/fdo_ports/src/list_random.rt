@@ -1,10 +1,10 @@
 ghost use Rattle.std.specs.Prelude.{◌≡◌, [], ◌∷◌, ◌||◌, ◌==◌, length, MatchResult, is_err};
 ghost use Rattle.fdo_ports.specs.Count.{Counts};
-ghost use Rattle.fdo_ports.specs.Told.{Answers};
+ghost use Rattle.port_base.specs.Told.{Answers};
 
-use crate::calls::Calls;
 use crate::failed::Failed;
 use crate::random::Random;
+use port_base::Calls;
 
 /// A random source whose draws stand in a list. A draw past the list's end fails.
 #[derive(Debug, Drop)]
@@ -16,7 +16,7 @@ pub struct ListRandom {
 
 impl ListRandom {
     ghost use Rattle.fdo_ports.specs.MemoryObjects.{draws_given, draws_left, random_calls};
-    ghost use Rattle.fdo_ports.specs.Scheduled.{no_calls};
+    ghost use Rattle.port_base.specs.Scheduled.{no_calls};
 
     /// The draws in order, and the numbers, from 1, of the calls that fail.
     pub fn new(content: Vec<[u8; 16]>, fail: Vec<u64>) -> ListRandom
@@ -35,7 +35,7 @@ impl ListRandom {
 impl Random for ListRandom {
     ghost use Rattle.std.specs.Prelude.{Some};
     ghost use Rattle.fdo_ports.specs.MemoryObjects.{draws_given, draws_left, random_calls};
-    ghost use Rattle.fdo_ports.specs.Scheduled.{fails_next, after_call, faults_of};
+    ghost use Rattle.port_base.specs.Scheduled.{fails_next, after_call, faults_of};
 
     ghost draws = { λ r. Some (draws_given r) };
 
@@ -48,14 +48,19 @@ impl Random for ListRandom {
         ensures fails { is_err result ≡ (fails_next (random_calls self.old) || (length (draws_left self.old) == 0)) }
         ensures calls { random_calls self.new ≡ after_call (random_calls self.old) (is_err result) }
     {
-        self.calls.next()?;
+        if self.calls.fails() {
+            return Err(Failed);
+        }
         match self.content.get(self.given) {
             Some(draw) => {
                 let draw = *draw;
                 self.given += 1;
                 Ok(draw)
             }
-            None => Err(self.calls.raise()),
+            None => {
+                self.calls.raise();
+                Err(Failed)
+            }
         }
     }
 }

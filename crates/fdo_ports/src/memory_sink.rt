@@ -2,10 +2,10 @@ ghost use Rattle.std.specs.Prelude.{◌≡◌, ◌<◌, length, IsTrue, IsErr, I
 ghost use Rattle.fdo_ports.specs.Count.{Counts};
 ghost use Rattle.fdo_ports.specs.Told.{Writes};
 
-use crate::calls::Calls;
 use crate::channel::Channel;
 use crate::failed::Failed;
 use crate::sink::Sink;
+use port_base::Calls;
 
 /// A sink that keeps what was written. Where it finds no memory for a piece, the write fails.
 #[derive(Debug, Drop)]
@@ -16,7 +16,7 @@ pub struct MemorySink {
 
 impl MemorySink {
     ghost use Rattle.fdo_ports.specs.MemoryObjects.{bytes_written, sink_calls};
-    ghost use Rattle.fdo_ports.specs.Scheduled.{no_calls};
+    ghost use Rattle.port_base.specs.Scheduled.{no_calls};
 
     /// What counts as written before, and the numbers, from 1, of the writes that fail.
     pub fn new(content: Vec<u8>, fail: Vec<u64>) -> MemorySink
@@ -40,7 +40,7 @@ impl MemorySink {
 impl Channel for MemorySink {
     ghost use Rattle.std.specs.Prelude.{Some, None};
     ghost use Rattle.fdo_ports.specs.MemoryObjects.{bytes_written, sink_calls};
-    ghost use Rattle.fdo_ports.specs.Scheduled.{faults_of};
+    ghost use Rattle.port_base.specs.Scheduled.{faults_of};
 
     ghost left = { λ _. None };
 
@@ -54,7 +54,7 @@ impl Channel for MemorySink {
 impl Sink for MemorySink {
     ghost use Rattle.std.specs.Prelude.{Some};
     ghost use Rattle.fdo_ports.specs.MemoryObjects.{bytes_written, sink_calls, IsFull};
-    ghost use Rattle.fdo_ports.specs.Scheduled.{fails_next, after_call, faults_of};
+    ghost use Rattle.port_base.specs.Scheduled.{fails_next, after_call, faults_of};
 
     fn write_some(&mut self, piece: &[u8]) -> Result<usize, Failed>
         requires { 0 < length piece.now }
@@ -66,9 +66,12 @@ impl Sink for MemorySink {
         ensures full { OnErr result (fails_next (sink_calls self.old) ≡ false → IsFull self.old (length piece.now)) }
         ensures calls { sink_calls self.new ≡ after_call (sink_calls self.old) (is_err result) }
     {
-        self.calls.next()?;
+        if self.calls.fails() {
+            return Err(Failed);
+        }
         if self.content.extend_from_slice(piece).is_err() {
-            return Err(self.calls.raise());
+            self.calls.raise();
+            return Err(Failed);
         }
         Ok(piece.len())
     }

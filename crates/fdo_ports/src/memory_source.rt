@@ -2,10 +2,10 @@ ghost use Rattle.std.specs.Prelude.{◌≡◌, ◌<◌, length, min, take, drop,
 ghost use Rattle.fdo_ports.specs.Count.{Counts};
 ghost use Rattle.fdo_ports.specs.Told.{Reads};
 
-use crate::calls::Calls;
 use crate::channel::Channel;
 use crate::failed::Failed;
 use crate::source::Source;
+use port_base::Calls;
 
 /// A source whose bytes stand in memory, in pieces: one read gives bytes of one piece alone.
 #[derive(Debug, Drop)]
@@ -18,7 +18,7 @@ pub struct MemorySource {
 
 impl MemorySource {
     ghost use Rattle.fdo_ports.specs.MemoryObjects.{bytes_left, joined, pieces_left, filled, source_calls};
-    ghost use Rattle.fdo_ports.specs.Scheduled.{no_calls};
+    ghost use Rattle.port_base.specs.Scheduled.{no_calls};
 
     /// The pieces in order, of which empty ones are passed over, and the numbers, from 1, of the reads that fail.
     pub fn new(content: Vec<Vec<u8>>, fail: Vec<u64>) -> MemorySource
@@ -38,7 +38,7 @@ impl MemorySource {
 impl Channel for MemorySource {
     ghost use Rattle.std.specs.Prelude.{Some, None};
     ghost use Rattle.fdo_ports.specs.MemoryObjects.{bytes_left, source_calls};
-    ghost use Rattle.fdo_ports.specs.Scheduled.{faults_of};
+    ghost use Rattle.port_base.specs.Scheduled.{faults_of};
 
     ghost left = { λ s. Some (bytes_left s) };
 
@@ -52,7 +52,7 @@ impl Channel for MemorySource {
 impl Source for MemorySource {
     ghost use Rattle.std.specs.Prelude.{Some};
     ghost use Rattle.fdo_ports.specs.MemoryObjects.{bytes_left, pieces_left, TakesFront, source_calls};
-    ghost use Rattle.fdo_ports.specs.Scheduled.{fails_next, after_call, faults_of};
+    ghost use Rattle.port_base.specs.Scheduled.{fails_next, after_call, faults_of};
 
     fn read(&mut self, into: &mut [u8]) -> Result<usize, Failed>
         requires { 0 < length into.old }
@@ -63,7 +63,9 @@ impl Source for MemorySource {
         ensures fails { is_err result ≡ fails_next (source_calls self.old) }
         ensures calls { source_calls self.new ≡ after_call (source_calls self.old) (is_err result) }
     {
-        self.calls.next()?;
+        if self.calls.fails() {
+            return Err(Failed);
+        }
         while self.piece < self.pieces.len() {
             let piece = &self.pieces[self.piece];
             if self.at < piece.len() {

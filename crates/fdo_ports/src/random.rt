@@ -1,6 +1,6 @@
 ghost use Rattle.std.specs.Prelude.{ℕ, List, Option};
 ghost use Rattle.fdo_ports.specs.Count.{Counts};
-ghost use Rattle.fdo_ports.specs.Told.{Answers};
+ghost use Rattle.port_base.specs.Told.{Answers};
 
 use crate::failed::Failed;
 

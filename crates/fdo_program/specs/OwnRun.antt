@@ -1,6 +1,6 @@
 -- What the program does with its words over the objects of the outside.
 use Rattle.std.specs.Prelude.{◌≡◌, ℕ, List, Option, None, Some}
-use Rattle.fdo_ports.specs.Count.{Rises}
+use Rattle.port_base.specs.Count.{Rises}
 use Rattle.fdo_commands.specs.Answering.{CutShort}
 use Rattle.fdo_commands.specs.Commands.{Names, Unloadable}
 use Rattle.fdo_commands.specs.Ending.{Streams, Wrote}

@@ -1,5 +1,5 @@
 ghost use Rattle.std.specs.Prelude.{◌≡◌, ◌+◌, ◌-◌, ◌^◌, min};
-ghost use Rattle.fdo_ports.specs.Count.{Rises};
+ghost use Rattle.port_base.specs.Count.{Rises};
 
 use fdo_ports::Failed;
 

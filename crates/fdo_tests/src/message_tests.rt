@@ -7,6 +7,7 @@ use fdo_msgs::{
 use fdo_ports::ListRandom;
 use rendezvous::Server;
 use std::alloc::Global;
+use std::test::Fail;
 
 /// Five times three bytes and one more.
 fn threes(one: [u8; 3], last: u8) -> [u8; 16] {
@@ -49,6 +50,21 @@ fn tokens_have_bounds(rt: HostRuntime) -> Result<(), NoMemory> {
     for (length, fits) in [(0, false), (1, true), (1024, true), (1025, false)] {
         let found = Token::new(vec![in alloc; 65; length]?);
         assert_eq!(rt; found.is_some(), fits);
+    }
+    Ok(())
+}
+
+#[test]
+fn a_token_is_printed_by_its_length(rt: HostRuntime) -> Result<(), Fail> {
+    let alloc = rt.alloc();
+    match Token::new(Vec::from_slice(alloc, b"Bearer x")?) {
+        Some(token) => {
+            let text = format!(in alloc; "{token:?}")?;
+            assert_eq!(rt; text.as_str(), "Token { bytes: 8, .. }");
+            let bytes = token.into_vec();
+            assert_eq!(rt; bytes.as_slice(), b"Bearer x".as_slice());
+        }
+        None => assert!(rt; false, "eight bytes are a token"),
     }
     Ok(())
 }

@@ -4,9 +4,9 @@ ghost use Rattle.hash_hmac.specs.Session.{derivation_text, derived_key};
 use crate::bytes::padded;
 use crate::hmac::hmac_sha256;
 
-/// The key of a session, from the secret that both ends share, by the key derivation function of FIDO Device
-/// Onboard 1.1, section 3.6.4: the first `bits` bits, 128 or 256, of one HMAC-SHA-256. The key stands in front of the
-/// array, 16 or 32 bytes; the bytes past it are zero.
+/// The key of a session, from the secret that both ends share, in the form of the key derivation function of FIDO
+/// Device Onboard 1.1, section 3.6.4, with a label of our own: the first `bits` bits, 128 or 256, of one HMAC-SHA-256.
+/// The key stands in front of the array, 16 or 32 bytes; the bytes past it are zero.
 #[tactic(auto, unfolding(crate::specs::Session::derived_key))]
 pub fn session_key(shared: &[u8], bits: u16) -> [u8; 32]
     requires { (bits ≡ 128) ⊎ (bits ≡ 256) }

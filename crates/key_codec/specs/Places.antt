@@ -3,11 +3,11 @@
 use Rattle.std.specs.Prelude.{ℕ, ℤ, pos, negsuc, List, [], ◌∷◌, Bool, true, false, ◌||◌, ◌&&◌, Option, Some, None, is_some, if◌then◌else◌}
 use Rattle.std.specs.Ordering.{int_eq}
 use Rattle.cbor_core.specs.declared.item.Item.{out-Item}
-use Rattle.cbor_core.specs.Spots.{Spot, spot_item, spot_parts, bytes_in}
+use Rattle.cbor_core.specs.Spots.{Spot, spot_item, spot_parts}
 use Rattle.hash_hmac.specs.Kind.{length_of}
 use Rattle.key_codec.specs.declared.encoding.Form.{Form}
 use Rattle.key_codec.specs.declared.encoding.Form.TheVariants as form
-use Rattle.cbor_core.specs.Shapes.{is_array, is_map, two_spots, three_spots}
+use Rattle.cbor_core.specs.Shapes.{is_array, is_bytes, is_map, two_spots, three_spots}
 use Rattle.key_codec.specs.Key.{is_key_type, is_curve, form_of}
 use Rattle.cbor_core.specs.Numbers.{integer_in}
 use Rattle.cbor_core.specs.Shapes.{is_number}
@@ -16,9 +16,6 @@ use Rattle.cbor_core.specs.Shapes.{is_number}
 
 abbrev pub is_integer : Spot → Bool
 is_integer s = is_some (integer_in (spot_item s))
-
-abbrev pub is_bytes : Spot → Bool
-is_bytes s = is_some (bytes_in (out-Item (spot_item s)))
 
 -- ---- signature information, hashes
 
@@ -45,7 +42,7 @@ hash_place s = hash_place_in s.at (two_spots s)
 -- the first certificate that is no byte string, or the array
 abbrev pub first_not_bytes : ℕ → List Spot → ℕ
 first_not_bytes at [] = at
-first_not_bytes at (s ∷ ss) = if is_bytes s then first_not_bytes at ss else s.at
+first_not_bytes at (s ∷ ss) = if is_bytes (out-Item (spot_item s)) then first_not_bytes at ss else s.at
 
 unfoldable pub chain_place : Spot → ℕ
 chain_place s = if is_array (out-Item (spot_item s)) then first_not_bytes s.at (spot_parts s) else s.at
@@ -71,7 +68,7 @@ abbrev pub fits_number : ℤ → Spot → Bool
 fits_number label v =
     if int_eq label (pos 1) then is_number (pos 2) (integer_in (spot_item v))
     else if int_eq label (negsuc 0) then is_one_curve (integer_in (spot_item v))
-    else if int_eq label (negsuc 1) || int_eq label (negsuc 2) then is_bytes v
+    else if int_eq label (negsuc 1) || int_eq label (negsuc 2) then is_bytes (out-Item (spot_item v))
     else true
 
 abbrev pub fits_label : Option ℤ → Spot → Bool

@@ -40,6 +40,14 @@ impl X5Chain {
         self.certificates.as_slice()
     }
 
+    pub fn into_vec(self) -> Vec<Blob>
+        ensures value { result.items ≡ self }
+        ensures some { result.items ≢ [] }
+    {
+        let X5Chain { certificates } = self;
+        certificates
+    }
+
     /// An equal chain.
     pub fn copy(&self, alloc: Global) -> Result<X5Chain, NoMemory>
         ensures { IfOk result (λ chain. chain ≡ self.now) }

@@ -4,19 +4,13 @@ ghost use Rattle.std.specs.Prelude.{◌≡◌, option_map};
 ghost use Rattle.cbor_core.specs.declared.item.Item.{out-Item};
 ghost use Rattle.cbor_core.specs.Spots.{spot_item, spot_parts};
 ghost use Rattle.cbor_core.specs.Numbers.{integer_in};
-ghost use Rattle.key_codec.specs.Places.{is_bytes as is_byte_string, is_kind as is_known_kind, sig_info_place, hash_place, chain_place, cose_place, form_place, body_place as place_of_body, encoded_place, is_type as is_known_type, key_place, has_label as has_a_label, has_labels as has_all_labels, is_whole as is_whole_map, fits_label as fits_a_label, fits_number as fits_a_number, first_unfit, is_one_curve};
+ghost use Rattle.key_codec.specs.Places.{is_kind as is_known_kind, sig_info_place, hash_place, chain_place, cose_place, form_place, body_place as place_of_body, encoded_place, is_type as is_known_type, key_place, has_label as has_a_label, has_labels as has_all_labels, is_whole as is_whole_map, fits_label as fits_a_label, fits_number as fits_a_number, first_unfit, is_one_curve};
 ghost use Rattle.cbor_core.specs.Shapes.{two_spots, three_spots};
 
 use crate::encoding::Form;
 use crate::kind::is_key_type;
 use cbor_core::Part;
 use hash_hmac::length_of;
-
-fn is_bytes(part: &Part) -> bool
-    ensures { result ≡ is_byte_string part.now.spot }
-{
-    part.major() == 2
-}
 
 /// Where signature information is not of its form.
 #[tactic(auto, unfolding(crate::specs::Places::sig_info_place))]
@@ -119,7 +113,7 @@ pub fn find_chain_fault(body: &Part) -> usize
     }
     let mut next = body.inside();
     while let Some(certificate) = next {
-        if !is_bytes(&certificate) {
+        if !certificate.is_bytes() {
             return certificate.at();
         }
         next = certificate.after();
@@ -200,7 +194,7 @@ fn fits_number(label: i64, value: &Part) -> bool
     match label {
         1 => value.integer() == Some(2),
         -1 => is_curve(value),
-        -2 | -3 => is_bytes(value),
+        -2 | -3 => value.is_bytes(),
         _ => true,
     }
 }

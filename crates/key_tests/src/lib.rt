@@ -3,7 +3,7 @@
 
 #[cfg(test)]
 mod tests {
-    use cbor_core::{Item, read_wire, write_det};
+    use cbor_core::{Blob, Item, read_wire, write_det};
     use key_codec::{
         KeyFault, PublicKey, X5Chain, hash_item, key_body_item, key_bytes, read_hash, read_key,
         read_key_body, read_sig_info, sig_info_item,
@@ -76,6 +76,23 @@ mod tests {
         }
         let none = X5Chain::new(Vec::new(rt.alloc()));
         assert!(rt; none.is_none());
+        Ok(())
+    }
+
+    #[test]
+    fn certificates_are_given_back(rt: HostRuntime) -> Result<(), Fail> {
+        let mut all = Vec::new(rt.alloc());
+        all.push(Blob::from_slice(rt.alloc(), b"leaf")?)?;
+        all.push(Blob::from_slice(rt.alloc(), b"root")?)?;
+        match X5Chain::new(all) {
+            Some(chain) => {
+                let mut all = chain.into_vec();
+                assert_eq!(rt; all.len(), 2);
+                let last = all.pop();
+                assert!(rt; matches!(&last, Some(root) if root.as_list() == b"root".as_slice()));
+            }
+            None => assert!(rt; false, "two certificates are a chain"),
+        }
         Ok(())
     }
 

@@ -1,8 +1,9 @@
 -- What the calls of a suite answer.
-use Rattle.std.specs.Prelude.{◌≡◌, ℕ, ◌+◌, ◌-◌, ◌^◌, ◌≤◌, min, List, Option, None, Some, Result, Ok, Err, Bool, true, false, if◌then◌else◌}
+use Rattle.std.specs.Prelude.{◌≡◌, ℕ, List, Option, None, Some, Result, Ok, Err, Bool, true, false, if◌then◌else◌}
 use Rattle.std.specs.Option.{option_map}
 use Rattle.std.specs.declared.vec.Vec.{Vec}
 use Rattle.std.specs.declared.alloc.Global.{Global}
+use Rattle.port_base.specs.Count.{Rises}
 use Rattle.suite_port.specs.declared.fault.SuiteFault.{SuiteFault}
 use Rattle.suite_port.specs.declared.fault.SuiteFault.TheVariants as faults
 
@@ -19,11 +20,6 @@ Decides known (Ok _) = known ≡ true
 Decides known (Err faults.NoAlgorithm) = known ≡ false
 Decides known (Err faults.Failed) = Unit {0}
 Decides known (Err faults.NoMemory) = Unit {0}
-
--- a call failed: the count rose, or stands at its last value, and did not fall
-pub record Rises (before now : ℕ) : Type 0 where
-  pub rose : min (before + 1) (2 ^ 64 - 1) ≤ now
-  pub later : before ≤ now
 
 -- the count rises exactly where a call answers Failed
 abbrev pub Counts : {T : Type 0} → ℕ → ℕ → Result T SuiteFault → Type 0

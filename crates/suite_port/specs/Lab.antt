@@ -4,7 +4,7 @@ use Rattle.std.specs.List.{list_any}
 use Rattle.std.specs.Str.{bytes_eq}
 use Rattle.std.specs.declared.vec.Vec.{Vec}
 use Rattle.std.specs.declared.alloc.Global.{Global}
-use Rattle.suite_port.specs.declared.calls.Calls.{Calls}
+use Rattle.port_base.specs.declared.calls.Calls.{Calls}
 use Rattle.suite_port.specs.declared.fault.SuiteFault.{SuiteFault}
 use Rattle.suite_port.specs.declared.fault.SuiteFault.TheVariants as faults
 use Rattle.suite_port.specs.declared.lab_suite.LabSuite.{LabSuite}

@@ -1,6 +1,5 @@
 pub mod Answer
 pub mod Held
-pub mod Scheduled
 pub mod LabKey
 pub mod LabCertificate
 pub mod Lab
@@ -9,3 +8,4 @@ pub mod LabLaws
 pub mod LabAgreement
 pub mod LabSeal
 pub mod LabOpening
+pub mod Asked

@@ -1,5 +1,7 @@
 ghost use Rattle.std.specs.Prelude.{◌≡◌, ◌⊎◌, ◌≤◌, ◌*◌, ℕ, ℤ, negsuc, List, Option, Some, IfSome, length};
 ghost use Rattle.suite_port.specs.Answer.{Answers, bytes_of, maybe_bytes_of};
+ghost use Rattle.suite_port.specs.Asked.{Asks};
+ghost use Rattle.suite_port.specs.Asked.Ask.{Sealed, Opened};
 
 use crate::fault::SuiteFault;
 use crate::holder::Holder;
@@ -39,7 +41,8 @@ pub trait Aead: Holder {
         requires plain { length plain.now ≤ 16777216 }
         ensures answer { Answers bytes_of (Some (seals alg key.now iv.now aad.now plain.now)) result }
         ensures held { Self.held self.new ≡ Self.held self.old }
-        ensures faults { Self.faults self.new ≡ Self.faults self.old };
+        ensures faults { Self.faults self.new ≡ Self.faults self.old }
+        ensures asked { Asks (Self.asked self.old) (Self.asked self.new) (Sealed alg key.now iv.now aad.now plain.now) result };
 
     /// The plain text of `sealed`, or None where it does not hold under the key, the IV and the additional data. The
     /// key has the bits of the algorithm. It fails only for want of memory.
@@ -55,7 +58,8 @@ pub trait Aead: Holder {
         requires key { bits alg ≡ Some (8 * length key.now) }
         ensures answer { Answers maybe_bytes_of (Some (opens alg key.now iv.now aad.now sealed.now)) result }
         ensures held { Self.held self.new ≡ Self.held self.old }
-        ensures faults { Self.faults self.new ≡ Self.faults self.old };
+        ensures faults { Self.faults self.new ≡ Self.faults self.old }
+        ensures asked { Asks (Self.asked self.old) (Self.asked self.new) (Opened alg key.now iv.now aad.now sealed.now) result };
 
     /// What was sealed is opened under the same key, IV and additional data.
     ghost opens_sealed: { (alg : ℤ) (key iv aad plain : List ℕ) → bits alg ≡ Some (8 * length key) → length iv ≡ 12 → length aad ≤ 16777216 → length plain ≤ 16777216 → opens alg key iv aad (seals alg key iv aad plain) ≡ Some plain };

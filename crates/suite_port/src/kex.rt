@@ -1,5 +1,7 @@
 ghost use Rattle.std.specs.Prelude.{◌≡◌, ℕ, List, Option, Some, Bool, true, IsSome, length};
 ghost use Rattle.suite_port.specs.Answer.{Answers, bytes_of, two_bytes_of, only_if};
+ghost use Rattle.suite_port.specs.Asked.{Asks};
+ghost use Rattle.suite_port.specs.Asked.Ask.{Began, Seconded, Finished};
 
 use crate::fault::SuiteFault;
 use crate::holder::Holder;
@@ -32,7 +34,8 @@ pub trait Kex: Holder {
     ) -> Result<(Vec<u8>, Vec<u8>), SuiteFault>
         ensures answer { Answers two_bytes_of (only_if (agrees name.now) (first_of name.now draw.now)) result }
         ensures held { Self.held self.new ≡ Self.held self.old }
-        ensures faults { Self.faults self.new ≡ Self.faults self.old };
+        ensures faults { Self.faults self.new ≡ Self.faults self.old }
+        ensures asked { Asks (Self.asked self.old) (Self.asked self.new) (Began name.now draw.now) result };
 
     /// xB and the shared secret, of 32 drawn bytes and the other end's xA. NoAlgorithm exactly where the suite has no
     /// such name or `xa` is no xA of it.
@@ -45,7 +48,8 @@ pub trait Kex: Holder {
     ) -> Result<(Vec<u8>, Vec<u8>), SuiteFault>
         ensures answer { Answers two_bytes_of (second_of name.now draw.now xa.now) result }
         ensures held { Self.held self.new ≡ Self.held self.old }
-        ensures faults { Self.faults self.new ≡ Self.faults self.old };
+        ensures faults { Self.faults self.new ≡ Self.faults self.old }
+        ensures asked { Asks (Self.asked self.old) (Self.asked self.new) (Seconded name.now draw.now xa.now) result };
 
     /// The shared secret, of the private part that `first` gave and the other end's xB. NoAlgorithm exactly where the
     /// suite has no such name, or `private` or `xb` is none of it.
@@ -58,7 +62,8 @@ pub trait Kex: Holder {
     ) -> Result<Vec<u8>, SuiteFault>
         ensures answer { Answers bytes_of (finish_of name.now private.now xb.now) result }
         ensures held { Self.held self.new ≡ Self.held self.old }
-        ensures faults { Self.faults self.new ≡ Self.faults self.old };
+        ensures faults { Self.faults self.new ≡ Self.faults self.old }
+        ensures asked { Asks (Self.asked self.old) (Self.asked self.new) (Finished name.now private.now xb.now) result };
 
     /// The other end takes every xA that `first` gives.
     ghost second_takes_first: { (name one other : List ℕ) → agrees name ≡ true → length one ≡ 32 → length other ≡ 32 → IsSome (second_of name other (first_of name one).0) };

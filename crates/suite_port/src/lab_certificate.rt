@@ -2,7 +2,7 @@ ghost use Rattle.std.specs.Prelude.{◌≡◌, ◌≤◌, List, ℕ, Option, Som
 ghost use Rattle.suite_port.specs.Answer.{Answers, Decides, Counts, bytes_of};
 ghost use Rattle.suite_port.specs.Lab.{lab_held, lab_calls, is_failed};
 ghost use Rattle.suite_port.specs.LabCertificate.{begins_key as begins_key_of, lab_certificate, lab_key_in};
-ghost use Rattle.suite_port.specs.Scheduled.{fails_next, after_call, faults_of};
+ghost use Rattle.port_base.specs.Scheduled.{fails_next, after_call, faults_of};
 ghost use Rattle.suite_port.specs.LabLaws.{lab_issued_key};
 
 use crate::bytes::{joined, owned};

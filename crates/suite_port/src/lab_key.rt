@@ -3,7 +3,7 @@ ghost use Rattle.suite_port.specs.Answer.{Answers, Decides, Counts, bytes_of, it
 ghost use Rattle.suite_port.specs.Held.{Adds};
 ghost use Rattle.suite_port.specs.Lab.{lab_held, lab_calls, is_failed};
 ghost use Rattle.suite_port.specs.LabKey.{is_private, public_key as public_key_of, is_lab_key as is_lab_key_of, lab_algorithm, lab_signature, lab_verifies};
-ghost use Rattle.suite_port.specs.Scheduled.{fails_next, after_call, faults_of};
+ghost use Rattle.port_base.specs.Scheduled.{fails_next, after_call, faults_of};
 ghost use Rattle.suite_port.specs.declared.fault.SuiteFault.TheVariants.{NoAlgorithm, NoMemory as OutOfMemory};
 
 use crate::bytes::{hash, owned};

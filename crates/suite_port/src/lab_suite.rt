@@ -1,8 +1,8 @@
 ghost use Rattle.std.specs.Prelude.{◌≡◌, ℕ, List, false};
 
-use crate::calls::Calls;
 use crate::holder::Holder;
 use crate::suite::Suite;
+use port_base::Calls;
 
 /// The laboratory suite, for tests and demonstrations. It is not secure: whoever knows a public key can sign. Its
 /// numbers are not COSE's: it signs with -65537, agrees by `LAB32`, and seals with -65538 and -65539.
@@ -14,7 +14,7 @@ pub struct LabSuite {
 
 impl LabSuite {
     ghost use Rattle.suite_port.specs.Lab.{lab_held, lab_calls};
-    ghost use Rattle.suite_port.specs.Scheduled.{no_calls};
+    ghost use Rattle.port_base.specs.Scheduled.{no_calls};
 
     /// A suite that holds no key. `fail` has the numbers, from 1, of the calls of `load`, `sign` and `issue`, counted
     /// together, that fail. A call that can be given no number, the one after 2^64 - 1, fails too.
@@ -31,12 +31,15 @@ impl LabSuite {
 }
 
 impl Holder for LabSuite {
+    ghost use Rattle.std.specs.Prelude.{None};
     ghost use Rattle.suite_port.specs.Lab.{lab_held, lab_calls};
-    ghost use Rattle.suite_port.specs.Scheduled.{faults_of};
+    ghost use Rattle.port_base.specs.Scheduled.{faults_of};
 
     ghost held = { lab_held };
 
     ghost faults = { λ s. faults_of (lab_calls s) };
+
+    ghost asked = { λ _. None };
 }
 
 impl Suite for LabSuite {

@@ -4,7 +4,6 @@
 
 pub mod aead;
 mod bytes;
-mod calls;
 pub mod cert_reader;
 pub mod fault;
 pub mod holder;

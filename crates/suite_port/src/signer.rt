@@ -1,5 +1,7 @@
 ghost use Rattle.std.specs.Prelude.{◌≡◌, ◌↔◌, ℕ, ℤ, List, Option, None, Bool, true, Err, IfOk, MatchResult};
 ghost use Rattle.suite_port.specs.Answer.{Decides, Counts};
+ghost use Rattle.suite_port.specs.Asked.{Asks};
+ghost use Rattle.suite_port.specs.Asked.Ask.{Loaded, Signed};
 ghost use Rattle.suite_port.specs.Held.{Adds};
 ghost use Rattle.suite_port.specs.declared.fault.SuiteFault.TheVariants.{NoAlgorithm};
 
@@ -24,7 +26,8 @@ pub trait Signer: Holder {
     fn load(&mut self, alloc: Global, private: &[u8]) -> Result<Vec<u8>, SuiteFault>
         ensures known { Decides (loads private.now) result }
         ensures held { MatchResult result (λ key. Adds (Self.held self.old) (Self.held self.new) key.items) (λ _. Self.held self.new ≡ Self.held self.old) }
-        ensures faults { Counts (Self.faults self.old) (Self.faults self.new) result };
+        ensures faults { Counts (Self.faults self.old) (Self.faults self.new) result }
+        ensures asked { Asks (Self.asked self.old) (Self.asked self.new) (Loaded private.now) result };
 
     /// Whether a `load` gave this key, or the suite was made with it.
     fn holds(&self, key: &[u8]) -> bool
@@ -41,5 +44,6 @@ pub trait Signer: Holder {
         ensures signed { IfOk result (λ sig. signs key.now text.now sig.items) }
         ensures unknown { (result ≡ Err NoAlgorithm) ↔ (algorithm key.now ≡ None) }
         ensures held { Self.held self.new ≡ Self.held self.old }
-        ensures faults { Counts (Self.faults self.old) (Self.faults self.new) result };
+        ensures faults { Counts (Self.faults self.old) (Self.faults self.new) result }
+        ensures asked { Asks (Self.asked self.old) (Self.asked self.new) (Signed key.now text.now) result };
 }

@@ -1,5 +1,7 @@
 ghost use Rattle.std.specs.Prelude.{◌≡◌, ℕ, ℤ, List, Option, Bool};
 ghost use Rattle.suite_port.specs.Answer.{Answers, itself};
+ghost use Rattle.suite_port.specs.Asked.{Asks};
+ghost use Rattle.suite_port.specs.Asked.Ask.{Verified};
 
 use crate::fault::SuiteFault;
 use crate::holder::Holder;
@@ -23,5 +25,6 @@ pub trait Verifier: Holder {
     ) -> Result<bool, SuiteFault>
         ensures answer { Answers itself (verifies key.now alg text.now sig.now) result }
         ensures held { Self.held self.new ≡ Self.held self.old }
-        ensures faults { Self.faults self.new ≡ Self.faults self.old };
+        ensures faults { Self.faults self.new ≡ Self.faults self.old }
+        ensures asked { Asks (Self.asked self.old) (Self.asked self.new) (Verified key.now alg text.now sig.now) result };
 }

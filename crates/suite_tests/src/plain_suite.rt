@@ -1,4 +1,4 @@
-ghost use Rattle.std.specs.Prelude.{◌≡◌, ◌∷◌, ℕ, List, Some, pos, true, false, refl};
+ghost use Rattle.std.specs.Prelude.{◌≡◌, ◌∷◌, ℕ, List, None, Some, pos, true, false, refl};
 ghost use Rattle.std.proofs.Common.{rules};
 ghost use Rattle.std.specs.Str.{bytes_eq};
 ghost use Rattle.suite_tests.specs.Plain.{plain_held, plain_verifies, plain_first, plain_second, plain_finish, plain_bits, plain_verified};
@@ -26,6 +26,8 @@ impl Holder for PlainSuite {
     ghost held = { plain_held };
 
     ghost faults = { λ _. 0 };
+
+    ghost asked = { λ _. None };
 }
 
 impl Verifier for PlainSuite {

@@ -1,5 +1,5 @@
 -- A voucher with one more entry, and the strength of the hashes that are made for it.
-use Rattle.std.specs.Prelude.{◌≡◌, ℕ, ◌==◌, ℤ, pos, List, [], ◌∷◌, ◌++◌, length, ◌<◌, nat_lt, Bool, true, false, ◌||◌, ◌&&◌, Option, None, Some, IsSome, Result, Ok, Err, if◌then◌else◌}
+use Rattle.std.specs.Prelude.{◌≡◌, ◌⊎◌, ℕ, ◌==◌, ℤ, pos, List, [], ◌∷◌, ◌++◌, length, ◌<◌, nat_lt, Bool, true, false, ◌||◌, ◌&&◌, Option, None, Some, IsSome, Result, Ok, Err, if◌then◌else◌}
 use Rattle.std.specs.Ordering.{int_eq}
 use Rattle.cbor_core.specs.Deterministic.{det}
 use Rattle.hash_hmac.specs.Kind.{sha256_kind, sha384_kind}
@@ -8,7 +8,12 @@ use Rattle.key_codec.specs.declared.key.KeyBody.TheVariants as body
 use Rattle.key_codec.specs.declared.key.PublicKey.{PublicKey}
 use Rattle.key_codec.specs.Key.{IsKey}
 use Rattle.cose_envelopes.specs.Envelope.{algorithm_in, item_of_sign1, protected_of}
-use Rattle.suite_port.specs.Answer.{Rises}
+use Rattle.port_base.specs.Count.{Rises}
+use Rattle.port_base.specs.Told.{grown}
+use Rattle.suite_port.specs.Asked.{Ask}
+use Rattle.suite_port.specs.Asked.Ask.{Signed}
+use Rattle.cose_envelopes.specs.declared.sign1.Sign1.{Sign1}
+use Rattle.cose_envelopes.specs.Text.{sign1_structure}
 use Rattle.voucher_chain.specs.declared.fault.ChainFault.{ChainFault}
 use Rattle.voucher_chain.specs.declared.fault.ChainFault.TheVariants as fault
 use Rattle.voucher_chain.specs.declared.entry.Entry.{Entry}
@@ -95,3 +100,25 @@ abbrev pub Counts : {A : Type 0} → ℕ → ℕ → Result A ChainFault → Typ
 Counts before now (Ok value) = now ≡ before
 Counts before now (Err fault.Failed) = Rises before now
 Counts before now (Err f) = now ≡ before
+
+-- ---- what is asked of the suite
+
+-- one signature under a key, over an envelope
+abbrev pub Signs : Option (List Ask) → Option (List Ask) → List ℕ → Sign1 → Type 0
+Signs before after key sign = after ≡ grown before (Signed key (sign1_structure sign.protected sign.payload) ∷ [])
+
+-- where memory runs out, nothing, or one signature under the key
+abbrev pub MaySign : Option (List Ask) → Option (List Ask) → List ℕ → Type 0
+MaySign before after key = (after ≡ before) ⊎ ((text : List ℕ) × (after ≡ grown before (Signed key text ∷ [])))
+
+-- one signature over what is given; where memory runs out, one or none, and where it is refused, none
+abbrev pub AsksNext : {A : Type 0} → (A → Sign1) → Option (List Ask) → Option (List Ask) → List ℕ → Result A ChainFault → Type 0
+AsksNext envelope before after key (Ok value) = Signs before after key (envelope value)
+AsksNext envelope before after key (Err fault.NoMemory) = MaySign before after key
+AsksNext envelope before after key (Err f) = after ≡ before
+
+-- the same for a voucher with an entry more than these
+abbrev pub AsksLonger : Option (List Ask) → Option (List Ask) → List ℕ → List Entry → Result Voucher ChainFault → Type 0
+AsksLonger before after key entries (Ok longer) = (entry : Entry) × (longer.entries ≡ entries ++ entry ∷ []) × Signs before after key entry.sign
+AsksLonger before after key entries (Err fault.NoMemory) = MaySign before after key
+AsksLonger before after key entries (Err f) = after ≡ before

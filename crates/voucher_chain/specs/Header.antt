@@ -6,7 +6,7 @@ use Rattle.cbor_core.specs.declared.item.Item.{Item, out-Item}
 use Rattle.cbor_core.specs.declared.item.Item.TheOpen.{Item-F}
 use Rattle.cbor_core.specs.declared.item.Item.TheVariants as items
 use Rattle.cbor_core.specs.Deterministic.{det}
-use Rattle.cbor_core.specs.Shapes.{null, is_null, of_length, six_spots}
+use Rattle.cbor_core.specs.Shapes.{null, is_null, is_text, of_length, six_spots}
 use Rattle.cbor_core.specs.Spots.{Spot, spot_item, spot_raw, bytes_in, text_in}
 use Rattle.cbor_core.specs.Whole.{seen_at, Shows}
 use Rattle.hash_hmac.specs.declared.hash.Hash.{Hash}
@@ -51,9 +51,6 @@ unfoldable pub header_seen : Spot → Option Header
 header_seen s = six_spots s >>= header_of s
 
 -- ---- where it is at fault
-
-abbrev pub is_text : Item-F Item → Bool
-is_text f = is_some (text_in f)
 
 abbrev pub later_parts_place : Spot → Spot → Spot → Spot → ℕ
 later_parts_place rv info key hash =

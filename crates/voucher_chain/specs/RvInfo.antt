@@ -5,7 +5,7 @@ use Rattle.std.specs.Prelude.{ℕ, ◌<◌, ◌^◌, List, [], ◌∷◌, map, B
 use Rattle.cbor_core.specs.declared.item.Item.{Item, out-Item}
 use Rattle.cbor_core.specs.declared.item.Item.TheOpen.{Item-F}
 use Rattle.cbor_core.specs.declared.item.Item.TheVariants as items
-use Rattle.cbor_core.specs.Shapes.{array_layer, is_array}
+use Rattle.cbor_core.specs.Shapes.{array_layer, is_array, is_bytes}
 use Rattle.cbor_core.specs.Spots.{Spot, spot_item, spot_parts, bytes_in}
 use Rattle.voucher_chain.specs.declared.rv_info.RvInstr.{RvInstr}
 use Rattle.voucher_chain.specs.Fault.{◌>>=◌, all_in, first_fault, place_or}
@@ -42,13 +42,10 @@ rv_in x = array_layer (out-Item x) >>= λ xs. all_in directive_in xs
 abbrev pub is_unsigned : Spot → Bool
 is_unsigned s = is_some (unsigned_in (out-Item (spot_item s)))
 
-abbrev pub is_bytes : Spot → Bool
-is_bytes s = is_some (bytes_in (out-Item (spot_item s)))
-
 -- an array of another length than one or two is at fault itself
 abbrev pub instr_parts_fault : ℕ → List Spot → Option ℕ
 instr_parts_fault at (v ∷ []) = if is_unsigned v then None else Some v.at
-instr_parts_fault at (v ∷ b ∷ []) = if is_unsigned v then (if is_bytes b then None else Some b.at) else Some v.at
+instr_parts_fault at (v ∷ b ∷ []) = if is_unsigned v then (if is_bytes (out-Item (spot_item b)) then None else Some b.at) else Some v.at
 instr_parts_fault at _ = Some at
 
 abbrev pub instr_fault : Spot → Option ℕ

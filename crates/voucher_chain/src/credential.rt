@@ -4,9 +4,10 @@ ghost use Rattle.voucher_chain.specs.Match.{IsMatch, IsHashOf, IsMacOf};
 use crate::voucher::Voucher;
 use cbor_core::{Blob, NoMemory, Text};
 use hash_hmac::{HMac, Hash, hash_of, hmac_of};
+use std::fmt;
 
 /// What a device keeps of its voucher (FIDO Device Onboard 1.1, section 3.4.1, "DeviceCredential").
-#[derive(Debug, Drop)]
+#[derive(Drop)]
 pub struct Credential {
     pub guid: [u8; 16],
     /// The bytes of the rendezvous information.
@@ -19,6 +20,19 @@ pub struct Credential {
     pub key_hash: Hash,
     /// The kind of that HMAC: 5 (HMAC-SHA-256) or 6 (HMAC-SHA-384).
     pub alg: u8,
+}
+
+/// Shows all but the secret.
+impl fmt::Debug for Credential {
+    fn fmt<F: fmt::Write>(&self, f: &mut fmt::Formatter<F>) -> fmt::Result {
+        f.debug_struct("Credential")
+            .field("guid", &self.guid)
+            .field("rv", &self.rv)
+            .field("info", &self.info)
+            .field("key_hash", &self.key_hash)
+            .field("alg", &self.alg)
+            .finish_non_exhaustive()
+    }
 }
 
 impl Credential {

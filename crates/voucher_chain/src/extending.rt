@@ -3,7 +3,7 @@ ghost use Rattle.cbor_core.specs.Deterministic.{det};
 ghost use Rattle.key_codec.specs.declared.key.PublicKey.{PublicKey};
 ghost use Rattle.key_codec.specs.Key.{item_of_key};
 ghost use Rattle.voucher_chain.specs.Chain.{Chain, last_key};
-ghost use Rattle.voucher_chain.specs.Extended.{AreSized, Counts, IsExtended, IsReadAgain, IsReadBack, Refuses, RefusesNext};
+ghost use Rattle.voucher_chain.specs.Extended.{AreSized, AsksLonger, AsksNext, Counts, IsExtended, IsReadAgain, IsReadBack, Refuses, RefusesNext};
 
 use crate::chain::owner_key;
 use crate::entry::{Entry, payload_item_of};
@@ -40,6 +40,8 @@ pub fn extend<S: Suite>(
     ensures refused { Refuses (S.Signer.algorithm (det (item_of_key (last_key voucher.now.header.key voucher.now.entries)))) (length voucher.now.entries) result }
     ensures held { S.Holder.held suite.new ≡ S.Holder.held suite.old }
     ensures faults { Counts (S.Holder.faults suite.old) (S.Holder.faults suite.new) result }
+    // One signature is asked of the suite, over the new entry.
+    ensures asked { AsksLonger (S.Holder.asked suite.old) (S.Holder.asked suite.new) (det (item_of_key (last_key voucher.now.header.key voucher.now.entries))) voucher.now.entries result }
 {
     lengthen(alloc, suite, voucher, next)
 }
@@ -57,6 +59,7 @@ fn lengthen<S: Suite>(
     ensures refused { Refuses (S.Signer.algorithm (det (item_of_key (last_key voucher.now.header.key voucher.now.entries)))) (length voucher.now.entries) result }
     ensures held { S.Holder.held suite.new ≡ S.Holder.held suite.old }
     ensures faults { Counts (S.Holder.faults suite.old) (S.Holder.faults suite.new) result }
+    ensures asked { AsksLonger (S.Holder.asked suite.old) (S.Holder.asked suite.new) (det (item_of_key (last_key voucher.now.header.key voucher.now.entries))) voucher.now.entries result }
 {
     let count = voucher.entries.as_list().len();
     if count >= 255 {
@@ -86,6 +89,7 @@ fn next_entry<S: Suite>(
     ensures refused { RefusesNext (S.Signer.algorithm (det (item_of_key (last_key voucher.now.header.key voucher.now.entries)))) index result }
     ensures held { S.Holder.held suite.new ≡ S.Holder.held suite.old }
     ensures faults { Counts (S.Holder.faults suite.old) (S.Holder.faults suite.new) result }
+    ensures asked { AsksNext (λ entry. entry.sign) (S.Holder.asked suite.old) (S.Holder.asked suite.new) (det (item_of_key (last_key voucher.now.header.key voucher.now.entries))) result }
 {
     let bits = strength(&voucher.header.key);
     let (first, second) = texts_before(voucher);
@@ -163,6 +167,7 @@ fn sign_payload<S: Suite>(
     ensures refused { RefusesNext (S.Signer.algorithm key.now) index result }
     ensures held { S.Holder.held suite.new ≡ S.Holder.held suite.old }
     ensures faults { Counts (S.Holder.faults suite.old) (S.Holder.faults suite.new) result }
+    ensures asked { AsksNext (λ sign. sign) (S.Holder.asked suite.old) (S.Holder.asked suite.new) key.now result }
 {
     match sign(alloc, suite, key, Pairs::new(alloc), payload) {
         Ok(signed) => Ok(signed),

@@ -2,7 +2,7 @@ ghost use Rattle.std.specs.Prelude.{◌≡◌, IfOk, map};
 ghost use Rattle.cbor_core.specs.declared.item.Item.{out-Item};
 ghost use Rattle.cbor_core.specs.Spots.{spot_item, spot_parts};
 ghost use Rattle.voucher_chain.specs.Fault.{all_in, first_fault};
-ghost use Rattle.voucher_chain.specs.RvInfo.{bare_instr, valued_instr, instr_in, directive_in, rv_in, instr_fault as fault_of_instr, directive_fault as fault_of_directive, rv_fault, rv_place, is_unsigned as is_an_unsigned, is_bytes as is_a_string, item_of_instr, item_of_directive, item_of_rv};
+ghost use Rattle.voucher_chain.specs.RvInfo.{bare_instr, valued_instr, instr_in, directive_in, rv_in, instr_fault as fault_of_instr, directive_fault as fault_of_directive, rv_fault, rv_place, is_unsigned as is_an_unsigned, item_of_instr, item_of_directive, item_of_rv};
 
 use cbor_core::{Blob, Item, Items, NoMemory, Part};
 use std::alloc::Global;
@@ -304,7 +304,7 @@ fn instr_parts_fault(part: &Part) -> Option<usize>
         return Some(part.at());
     }
     if is_unsigned(&variable) {
-        unless(is_bytes(&value), &value)
+        unless(value.is_bytes(), &value)
     } else {
         Some(variable.at())
     }
@@ -323,12 +323,6 @@ fn is_unsigned(part: &Part) -> bool
     ensures { result ≡ is_an_unsigned part.now.spot }
 {
     part.major() == 0
-}
-
-fn is_bytes(part: &Part) -> bool
-    ensures { result ≡ is_a_string part.now.spot }
-{
-    part.major() == 2
 }
 
 // ---- writing

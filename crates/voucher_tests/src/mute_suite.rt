@@ -25,6 +25,8 @@ impl Holder for MuteSuite {
     ghost held = { mute_held };
 
     ghost faults = { λ _. 0 };
+
+    ghost asked = { λ _. None };
 }
 
 impl Verifier for MuteSuite {

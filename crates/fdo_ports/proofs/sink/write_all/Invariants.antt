@@ -1,5 +1,5 @@
 use Rattle.std.proofs.Common.{◌≡◌, ◌-◌, ◌≤◌, length, take}
-use Rattle.fdo_ports.specs.Told.{grown}
+use Rattle.port_base.specs.Told.{grown}
 use Rattle.fdo_ports.proofs.sink.write_all.Given as goal
 
 -- what is done is written, and nothing else changed

@@ -1,6 +1,6 @@
 use Rattle.std.proofs.Common.{◌≡◌, ◌-◌, vec_len}
 use Rattle.fdo_ports.specs.MemoryObjects.{bytes_left, pieces_left}
-use Rattle.fdo_ports.specs.Scheduled.{counted}
+use Rattle.port_base.specs.Scheduled.{counted}
 use Rattle.fdo_ports.proofs.memory_source.MemorySourceSource.read.Given as goal
 
 -- what is left is what was left, and nothing is read yet
