@@ -1,4 +1,5 @@
--- The key of a session (FIDO Device Onboard 1.1, section 3.6.4: the key derivation function).
+-- The key of a session, in the form of the key derivation function of FIDO Device Onboard 1.1, section 3.6.4; the label
+-- is ours.
 use Rattle.std.specs.Prelude.{ℕ, ◌/◌, List, [], ◌∷◌, ◌++◌, take, codes}
 use Rattle.std.specs.Int.{w16, to_be_bytes}
 use Rattle.hash_hmac.specs.Bytes.{padded}

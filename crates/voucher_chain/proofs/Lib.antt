@@ -1,3 +1,4 @@
+pub mod AskLaws
 pub mod Alls
 pub mod BackLaws
 pub mod BreakLaws

@@ -1,6 +1,6 @@
 -- The chain of a voucher's owners (FIDO Device Onboard 1.1, section 3.4): each entry is signed by the owner before it,
 -- holds the hash of the bytes before it and of the header's information, and names the next owner's key.
-use Rattle.std.specs.Prelude.{◌≡◌, ℕ, ◌+◌, ℤ, List, [], ◌∷◌, ◌++◌, flat_map, Bool, true, false, ◌&&◌, ◌==◌, if◌then◌else◌, Option, Some, None, Result, Ok, Err}
+use Rattle.std.specs.Prelude.{◌≡◌, ℕ, zero, suc, ◌+◌, ℤ, length, List, [], ◌∷◌, ◌++◌, flat_map, Bool, true, false, ◌&&◌, ◌==◌, if◌then◌else◌, Option, Some, None, Result, Ok, Err}
 use Rattle.std.specs.Ordering.{int_eq}
 use Rattle.std.specs.Str.{bytes_eq}
 use Rattle.cbor_core.specs.Deterministic.{det}
@@ -11,6 +11,9 @@ use Rattle.key_codec.specs.declared.key.PublicKey.{PublicKey}
 use Rattle.key_codec.specs.Key.{item_of_key}
 use Rattle.cose_envelopes.specs.declared.sign1.Sign1.{Sign1}
 use Rattle.cose_envelopes.specs.Text.{sign1_structure}
+use Rattle.port_base.specs.Told.{grown}
+use Rattle.suite_port.specs.Asked.{Ask}
+use Rattle.suite_port.specs.Asked.Ask.{Verified}
 use Rattle.voucher_chain.specs.declared.entry.Entry.{Entry}
 use Rattle.voucher_chain.specs.declared.header.Header.{Header}
 use Rattle.voucher_chain.specs.declared.voucher.Voucher.{Voucher}
@@ -110,3 +113,26 @@ first_break verifies v = or_else (certificates_break v.chain v.header.chain_hash
 abbrev pub checked : Option ChainFault → Result (Unit {0}) ChainFault
 checked None = Ok tt
 checked (Some f) = Err f
+
+-- ---- what is asked of the suite
+
+-- whether the signature of an entry is right under a key
+abbrev pub checking : PublicKey → Sign1 → Ask
+checking key sign = Verified (det (item_of_key key)) sign.alg (sign1_structure sign.protected sign.payload) sign.sig
+
+-- that, once, where it is or the signature alone is wrong, and else nothing
+abbrev pub AsksToCheck : Option (List Ask) → Option (List Ask) → Ask → Result (Unit {0}) ChainFault → Type 0
+AsksToCheck before after ask (Ok value) = after ≡ grown before (ask ∷ [])
+AsksToCheck before after ask (Err (fault.BadSignature index)) = after ≡ grown before (ask ∷ [])
+AsksToCheck before after ask (Err f) = after ≡ before
+
+-- the signatures of the first entries of some, the first one under a key
+abbrev pub checkings : ℕ → PublicKey → List Entry → List Ask
+checkings zero key es = []
+checkings (suc n) key [] = []
+checkings (suc n) key (e ∷ es) = checking key e.sign ∷ checkings n e.key es
+
+-- that of each entry, once, in their order; where the chain is refused, those of some first entries
+abbrev pub AsksToCheckAll : Option (List Ask) → Option (List Ask) → PublicKey → List Entry → Result (Unit {0}) ChainFault → Type 0
+AsksToCheckAll before after key entries (Ok value) = after ≡ grown before (checkings (length entries) key entries)
+AsksToCheckAll before after key entries (Err f) = (n : ℕ) × (after ≡ grown before (checkings n key entries))

@@ -3,7 +3,7 @@ ghost use Rattle.key_codec.specs.declared.key.PublicKey.{PublicKey};
 ghost use Rattle.voucher_chain.specs.declared.fault.ChainFault.{ChainFault};
 ghost use Rattle.voucher_chain.specs.declared.fault.ChainFault.TheVariants.{NoMemory as OutOfMemory};
 ghost use Rattle.voucher_chain.specs.Broken.{BreaksEntry, IsFirstBreak};
-ghost use Rattle.voucher_chain.specs.Chain.{Chain, Follows, checked, certificates_break, entry_break, first_break, front, hash_break, last_key, links_break, signature_break, signature_told};
+ghost use Rattle.voucher_chain.specs.Chain.{AsksToCheck, AsksToCheckAll, Chain, Follows, checked, checking, certificates_break, entry_break, first_break, front, hash_break, last_key, links_break, signature_break, signature_told};
 ghost use Rattle.voucher_chain.specs.Fault.{Answers, or_else};
 
 use crate::entry::Entry;
@@ -52,6 +52,8 @@ pub fn check_entry<S: Suite>(
     ensures exact { Answers (checked (entry_break S.Verifier.verifies header.now index (prev_first.now ++ prev_second.now) signer.now entry.now)) result }
     ensures held { S.Holder.held suite.new ≡ S.Holder.held suite.old }
     ensures faults { S.Holder.faults suite.new ≡ S.Holder.faults suite.old }
+    // Where both hashes hold and the suite has the algorithm, it is asked once.
+    ensures asked { AsksToCheck (S.Holder.asked suite.old) (S.Holder.asked suite.new) (checking signer.now entry.now.sign) result }
 {
     check_link(
         alloc,
@@ -79,6 +81,7 @@ fn check_link<S: Suite>(
     ensures answer { Answers (checked (entry_break S.Verifier.verifies header.now index (prev_first.now ++ prev_second.now) signer.now entry.now)) result }
     ensures held { S.Holder.held suite.new ≡ S.Holder.held suite.old }
     ensures faults { S.Holder.faults suite.new ≡ S.Holder.faults suite.old }
+    ensures asked { AsksToCheck (S.Holder.asked suite.old) (S.Holder.asked suite.new) (checking signer.now entry.now.sign) result }
 {
     let unknown = ChainFault::NoAlgorithm(index);
     check_hash(
@@ -139,6 +142,7 @@ fn check_signature<S: Suite>(
     ensures answer { Answers (checked (signature_break index (signature_told S.Verifier.verifies signer.now sign.now))) result }
     ensures held { S.Holder.held suite.new ≡ S.Holder.held suite.old }
     ensures faults { S.Holder.faults suite.new ≡ S.Holder.faults suite.old }
+    ensures asked { AsksToCheck (S.Holder.asked suite.old) (S.Holder.asked suite.new) (checking signer.now sign.now) result }
 {
     let key = key_bytes(alloc, signer)?;
     match verify(alloc, suite, key.as_list(), sign) {
@@ -168,6 +172,8 @@ pub fn check_chain<S: Suite>(
     ensures exact { Answers (checked (first_break S.Verifier.verifies voucher.now)) result }
     ensures held { S.Holder.held suite.new ≡ S.Holder.held suite.old }
     ensures faults { S.Holder.faults suite.new ≡ S.Holder.faults suite.old }
+    // The suite is asked for each entry's signature once, in their order, up to the first break.
+    ensures asked { AsksToCheckAll (S.Holder.asked suite.old) (S.Holder.asked suite.new) voucher.now.header.key voucher.now.entries result }
 {
     check_all(alloc, suite, voucher)
 }
@@ -178,6 +184,7 @@ fn check_all<S: Suite>(alloc: Global, suite: &mut S, voucher: &Voucher) -> Resul
     ensures answer { Answers (checked (first_break S.Verifier.verifies voucher.now)) result }
     ensures held { S.Holder.held suite.new ≡ S.Holder.held suite.old }
     ensures faults { S.Holder.faults suite.new ≡ S.Holder.faults suite.old }
+    ensures asked { AsksToCheckAll (S.Holder.asked suite.old) (S.Holder.asked suite.new) voucher.now.header.key voucher.now.entries result }
 {
     check_certificates(alloc, &voucher.chain, &voucher.header.chain_hash)?;
     check_entries(alloc, suite, voucher)
@@ -226,6 +233,7 @@ fn check_entries<S: Suite>(
     ensures answer { Answers (checked (links_break S.Verifier.verifies voucher.now.header 0 (front voucher.now) voucher.now.header.key voucher.now.entries)) result }
     ensures held { S.Holder.held suite.new ≡ S.Holder.held suite.old }
     ensures faults { S.Holder.faults suite.new ≡ S.Holder.faults suite.old }
+    ensures asked { AsksToCheckAll (S.Holder.asked suite.old) (S.Holder.asked suite.new) voucher.now.header.key voucher.now.entries result }
 {
     let mut index: u8 = 0;
     let mut signer = &voucher.header.key;
