@@ -11,3 +11,4 @@ pub mod KeyWords
 pub mod Commands
 pub mod Extending
 pub mod Ran
+pub mod Numbers

@@ -22,7 +22,7 @@ use system_random::SystemRandom;
 use words::read_words;
 
 fn main(rt: HostRuntime) -> ExitCode {
-    ExitCode::from(run(&rt) as u8)
+    ExitCode::from(run(&rt).number())
 }
 
 /// Runs the words of the command line over the real objects.

@@ -146,7 +146,7 @@ fn run(alloc: Global, case: &Case, cut: bool) -> Result<(Vec<u8>, u8), AllocErro
         &mut suite,
         &mut random,
     );
-    Ok((Vec::from_slice(alloc, output.written())?, status as u8))
+    Ok((Vec::from_slice(alloc, output.written())?, status.number()))
 }
 
 #[test]
