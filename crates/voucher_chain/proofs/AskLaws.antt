@@ -1,5 +1,5 @@
 -- What is asked of a suite, entry by entry.
-use Rattle.std.proofs.Common.{◌≡◌, ℕ, zero, suc, ◌+◌, ◌<◌, ◌≤◌, List, [], ◌∷◌, length, drop, get_or, Option, None, Some, Err, refl, sym, ap, ◌∙◌, append-nil, append_assoc, arith}
+use Rattle.std.proofs.Common.{◌≡◌, ◌⊎◌, inl, inr, ℕ, zero, suc, ◌+◌, ◌<◌, ◌≤◌, List, [], ◌∷◌, length, drop, get_or, Option, None, Some, Err, refl, sym, ap, subst, ◌∙◌, append-nil, append_assoc, arith}
 use Rattle.std.proofs.lemmas.List.{drop_more}
 use Rattle.port_base.specs.Told.{grown}
 use Rattle.suite_port.specs.Asked.{Ask}
@@ -7,7 +7,7 @@ use Rattle.key_codec.specs.declared.key.PublicKey.{PublicKey}
 use Rattle.voucher_chain.specs.declared.entry.Entry.{Entry}
 use Rattle.voucher_chain.specs.declared.fault.ChainFault.{ChainFault}
 use Rattle.voucher_chain.specs.declared.fault.ChainFault.TheVariants as fault
-use Rattle.voucher_chain.specs.Chain.{AsksToCheck, AsksToCheckAll, checking, checkings}
+use Rattle.voucher_chain.specs.Chain.{AsksToCheck, AsksUpTo, checking, checkings}
 
 pub grown_none : (told : Option (List Ask)) → grown told [] ≡ told
 grown_none None = refl
@@ -47,22 +47,38 @@ remains_here before now key signer es i was =
 pub remains_all : (before now : Option (List Ask)) (key signer : PublicKey) (es : List Entry) (i : ℕ) → Remains before now key signer es i → length es ≤ i → now ≡ grown before (checkings (length es) key es)
 remains_all before now key signer es i was past = remains_here before now key signer es i was ∙ ap (grown before) (checkings_past i key es past)
 
-module _ (before now now' : Option (List Ask)) (key signer : PublicKey) (es : List Entry) (i : ℕ) (e : Entry) (was : Remains before now key signer es i) (lt : i < length es) (is : e ≡ get_or es i e) where
-  stays : now' ≡ now → (n : ℕ) × (now' ≡ grown before (checkings n key es))
-  stays same = (i, same ∙ remains_here before now key signer es i was)
+-- a hash breaks an entry, and nothing is asked
+pub unasked_prev : (before : Option (List Ask)) (ask : Ask) (index : ℕ) (f : ChainFault) → (f ≡ fault.NoAlgorithm index) ⊎ (f ≡ fault.BadPrevHash index) → AsksToCheck before before ask index (Err f)
+unasked_prev before ask index f (inl is) = subst (λ (x : ChainFault). AsksToCheck before before ask index (Err x)) (sym is) (refl, refl)
+unasked_prev before ask index f (inr is) = subst (λ (x : ChainFault). AsksToCheck before before ask index (Err x)) (sym is) (refl, refl)
 
-  goes : now' ≡ grown now (checking signer e.sign ∷ []) → (n : ℕ) × (now' ≡ grown before (checkings n key es))
-  goes asked = (i + 1, remains_here before now' key e.key es (i + 1) (remains_next before now now' key signer es i e was lt is asked))
+pub unasked_info : (before : Option (List Ask)) (ask : Ask) (index : ℕ) (f : ChainFault) → (f ≡ fault.NoAlgorithm index) ⊎ (f ≡ fault.BadInfoHash index) → AsksToCheck before before ask index (Err f)
+unasked_info before ask index f (inl is) = subst (λ (x : ChainFault). AsksToCheck before before ask index (Err x)) (sym is) (refl, refl)
+unasked_info before ask index f (inr is) = subst (λ (x : ChainFault). AsksToCheck before before ask index (Err x)) (sym is) (refl, refl)
+
+-- the certificates break a chain
+pub unasked_chain : (before : Option (List Ask)) (key : PublicKey) (es : List Entry) (f : ChainFault) → (f ≡ fault.NoMemory) ⊎ (f ≡ fault.BadCertHash) → AsksUpTo before before key es f
+unasked_chain before key es f (inl is) = subst (λ (x : ChainFault). AsksUpTo before before key es x) (sym is) (0, sym (grown_none before))
+unasked_chain before key es f (inr is) = subst (λ (x : ChainFault). AsksUpTo before before key es x) (sym is) (sym (grown_none before))
+
+module _ (before now now' : Option (List Ask)) (key signer : PublicKey) (es : List Entry) (i index : ℕ) (e : Entry) (was : Remains before now key signer es i) (lt : i < length es) (is : e ≡ get_or es i e) (named : index ≡ i) where
+  stays : (number : ℕ) → number ≡ index → now' ≡ now → now' ≡ grown before (checkings number key es)
+  stays number same unasked = unasked ∙ remains_here before now key signer es i was ∙ sym (ap (λ n. grown before (checkings n key es)) (same ∙ named))
+
+  goes : (number : ℕ) → number ≡ index → now' ≡ grown now (checking signer e.sign ∷ []) → now' ≡ grown before (checkings (number + 1) key es)
+  goes number same asked =
+      remains_here before now' key e.key es (i + 1) (remains_next before now now' key signer es i e was lt is asked)
+      ∙ sym (ap (λ n. grown before (checkings (n + 1) key es)) (same ∙ named))
 
   -- the chain is refused at an entry
-  pub remains_refused : (f : ChainFault) → AsksToCheck now now' (checking signer e.sign) (Err f) → AsksToCheckAll before now' key es (Err f)
-  remains_refused (fault.BadSignature index) asked = goes asked
-  remains_refused (fault.BadShape place) asked = stays asked
-  remains_refused fault.BadCertHash asked = stays asked
-  remains_refused (fault.BadPrevHash index) asked = stays asked
-  remains_refused (fault.BadInfoHash index) asked = stays asked
-  remains_refused (fault.NoAlgorithm index) asked = stays asked
-  remains_refused fault.TooLong asked = stays asked
-  remains_refused fault.NoMatch asked = stays asked
-  remains_refused fault.Failed asked = stays asked
-  remains_refused fault.NoMemory asked = stays asked
+  pub remains_refused : (f : ChainFault) → AsksToCheck now now' (checking signer e.sign) index (Err f) → AsksUpTo before now' key es f
+  remains_refused (fault.BadSignature number) asked = goes number asked.0 asked.1
+  remains_refused (fault.BadPrevHash number) asked = stays number asked.0 asked.1
+  remains_refused (fault.BadInfoHash number) asked = stays number asked.0 asked.1
+  remains_refused (fault.NoAlgorithm number) asked = stays number asked.0 asked.1
+  remains_refused fault.NoMemory asked = (i, asked ∙ remains_here before now key signer es i was)
+  remains_refused (fault.BadShape place) asked = absurd asked
+  remains_refused fault.BadCertHash asked = absurd asked
+  remains_refused fault.TooLong asked = absurd asked
+  remains_refused fault.NoMatch asked = absurd asked
+  remains_refused fault.Failed asked = absurd asked

@@ -120,11 +120,15 @@ checked (Some f) = Err f
 abbrev pub checking : PublicKey → Sign1 → Ask
 checking key sign = Verified (det (item_of_key key)) sign.alg (sign1_structure sign.protected sign.payload) sign.sig
 
--- that, once, where it is or the signature alone is wrong, and else nothing
-abbrev pub AsksToCheck : Option (List Ask) → Option (List Ask) → Ask → Result (Unit {0}) ChainFault → Type 0
-AsksToCheck before after ask (Ok value) = after ≡ grown before (ask ∷ [])
-AsksToCheck before after ask (Err (fault.BadSignature index)) = after ≡ grown before (ask ∷ [])
-AsksToCheck before after ask (Err f) = after ≡ before
+-- that, once, where it is or the signature alone is wrong, and else nothing; a refusal names the entry
+abbrev pub AsksToCheck : Option (List Ask) → Option (List Ask) → Ask → ℕ → Result (Unit {0}) ChainFault → Type 0
+AsksToCheck before after ask index (Ok value) = after ≡ grown before (ask ∷ [])
+AsksToCheck before after ask index (Err (fault.BadSignature number)) = (number ≡ index) × (after ≡ grown before (ask ∷ []))
+AsksToCheck before after ask index (Err (fault.BadPrevHash number)) = (number ≡ index) × (after ≡ before)
+AsksToCheck before after ask index (Err (fault.BadInfoHash number)) = (number ≡ index) × (after ≡ before)
+AsksToCheck before after ask index (Err (fault.NoAlgorithm number)) = (number ≡ index) × (after ≡ before)
+AsksToCheck before after ask index (Err fault.NoMemory) = after ≡ before
+AsksToCheck before after ask index (Err f) = ⊥
 
 -- the signatures of the first entries of some, the first one under a key
 abbrev pub checkings : ℕ → PublicKey → List Entry → List Ask
@@ -132,7 +136,20 @@ checkings zero key es = []
 checkings (suc n) key [] = []
 checkings (suc n) key (e ∷ es) = checking key e.sign ∷ checkings n e.key es
 
--- that of each entry, once, in their order; where the chain is refused, those of some first entries
-abbrev pub AsksToCheckAll : Option (List Ask) → Option (List Ask) → PublicKey → List Entry → Result (Unit {0}) ChainFault → Type 0
+-- how many entries have had their signatures asked for where a chain is refused so
+abbrev pub asked_before : ChainFault → ℕ
+asked_before (fault.BadPrevHash index) = index
+asked_before (fault.BadInfoHash index) = index
+asked_before (fault.NoAlgorithm index) = index
+asked_before (fault.BadSignature index) = index + 1
+asked_before _ = 0
+
+-- those, in their order; where memory runs out, those of some first entries
+abbrev pub AsksUpTo : Option (List Ask) → Option (List Ask) → PublicKey → List Entry → ChainFault → Type 0
+AsksUpTo before after key entries fault.NoMemory = (n : ℕ) × (after ≡ grown before (checkings n key entries))
+AsksUpTo before after key entries f = after ≡ grown before (checkings (asked_before f) key entries)
+
+-- that of each entry, once, up to the first break
+abbrev pub AsksToCheckAll : {A : Type 0} → Option (List Ask) → Option (List Ask) → PublicKey → List Entry → Result A ChainFault → Type 0
 AsksToCheckAll before after key entries (Ok value) = after ≡ grown before (checkings (length entries) key entries)
-AsksToCheckAll before after key entries (Err f) = (n : ℕ) × (after ≡ grown before (checkings n key entries))
+AsksToCheckAll before after key entries (Err f) = AsksUpTo before after key entries f

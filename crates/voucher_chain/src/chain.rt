@@ -1,7 +1,7 @@
 ghost use Rattle.std.specs.Prelude.{◌≡◌, ◌≤◌, ◌++◌, ◌⊎◌, ℕ, List, length, flat_map, Option, Ok, Err, IfOk, IfErr};
 ghost use Rattle.key_codec.specs.declared.key.PublicKey.{PublicKey};
 ghost use Rattle.voucher_chain.specs.declared.fault.ChainFault.{ChainFault};
-ghost use Rattle.voucher_chain.specs.declared.fault.ChainFault.TheVariants.{NoMemory as OutOfMemory};
+ghost use Rattle.voucher_chain.specs.declared.fault.ChainFault.TheVariants.{BadCertHash as WrongCertificates, NoMemory as OutOfMemory};
 ghost use Rattle.voucher_chain.specs.Broken.{BreaksEntry, IsFirstBreak};
 ghost use Rattle.voucher_chain.specs.Chain.{AsksToCheck, AsksToCheckAll, Chain, Follows, checked, checking, certificates_break, entry_break, first_break, front, hash_break, last_key, links_break, signature_break, signature_told};
 ghost use Rattle.voucher_chain.specs.Fault.{Answers, or_else};
@@ -52,8 +52,8 @@ pub fn check_entry<S: Suite>(
     ensures exact { Answers (checked (entry_break S.Verifier.verifies header.now index (prev_first.now ++ prev_second.now) signer.now entry.now)) result }
     ensures held { S.Holder.held suite.new ≡ S.Holder.held suite.old }
     ensures faults { S.Holder.faults suite.new ≡ S.Holder.faults suite.old }
-    // Where both hashes hold and the suite has the algorithm, it is asked once.
-    ensures asked { AsksToCheck (S.Holder.asked suite.old) (S.Holder.asked suite.new) (checking signer.now entry.now.sign) result }
+    // Where both hashes hold and the suite has the algorithm, it is asked once; a refusal has the number given.
+    ensures asked { AsksToCheck (S.Holder.asked suite.old) (S.Holder.asked suite.new) (checking signer.now entry.now.sign) index result }
 {
     check_link(
         alloc,
@@ -67,7 +67,7 @@ pub fn check_entry<S: Suite>(
     )
 }
 
-#[tactic(auto, unfolding(crate::specs::Chain::entry_break))]
+#[tactic(auto, unfolding(crate::specs::Chain::entry_break), using(crate::proofs::AskLaws::unasked_prev, crate::proofs::AskLaws::unasked_info))]
 fn check_link<S: Suite>(
     alloc: Global,
     suite: &mut S,
@@ -81,7 +81,7 @@ fn check_link<S: Suite>(
     ensures answer { Answers (checked (entry_break S.Verifier.verifies header.now index (prev_first.now ++ prev_second.now) signer.now entry.now)) result }
     ensures held { S.Holder.held suite.new ≡ S.Holder.held suite.old }
     ensures faults { S.Holder.faults suite.new ≡ S.Holder.faults suite.old }
-    ensures asked { AsksToCheck (S.Holder.asked suite.old) (S.Holder.asked suite.new) (checking signer.now entry.now.sign) result }
+    ensures asked { AsksToCheck (S.Holder.asked suite.old) (S.Holder.asked suite.new) (checking signer.now entry.now.sign) index result }
 {
     let unknown = ChainFault::NoAlgorithm(index);
     check_hash(
@@ -110,7 +110,8 @@ fn check_hash(
     unknown: ChainFault,
     wrong: ChainFault,
 ) -> Result<(), ChainFault>
-    ensures { result ≡ checked (hash_break unknown wrong hash.now (first.now ++ second.now)) }
+    ensures answer { result ≡ checked (hash_break unknown wrong hash.now (first.now ++ second.now)) }
+    ensures named { IfErr result (λ f. (f ≡ unknown) ⊎ (f ≡ wrong)) }
 {
     match hash_of(hash.kind, first, second) {
         Some(told) => {
@@ -142,7 +143,7 @@ fn check_signature<S: Suite>(
     ensures answer { Answers (checked (signature_break index (signature_told S.Verifier.verifies signer.now sign.now))) result }
     ensures held { S.Holder.held suite.new ≡ S.Holder.held suite.old }
     ensures faults { S.Holder.faults suite.new ≡ S.Holder.faults suite.old }
-    ensures asked { AsksToCheck (S.Holder.asked suite.old) (S.Holder.asked suite.new) (checking signer.now sign.now) result }
+    ensures asked { AsksToCheck (S.Holder.asked suite.old) (S.Holder.asked suite.new) (checking signer.now sign.now) index result }
 {
     let key = key_bytes(alloc, signer)?;
     match verify(alloc, suite, key.as_list(), sign) {
@@ -178,7 +179,7 @@ pub fn check_chain<S: Suite>(
     check_all(alloc, suite, voucher)
 }
 
-#[tactic(auto, unfolding(crate::specs::Chain::first_break))]
+#[tactic(auto, unfolding(crate::specs::Chain::first_break), using(crate::proofs::AskLaws::unasked_chain))]
 fn check_all<S: Suite>(alloc: Global, suite: &mut S, voucher: &Voucher) -> Result<(), ChainFault>
     requires { length voucher.now.entries ≤ 255 }
     ensures answer { Answers (checked (first_break S.Verifier.verifies voucher.now)) result }
@@ -195,7 +196,8 @@ fn check_certificates(
     chain: &Option<X5Chain>,
     hash: &Option<Hash>,
 ) -> Result<(), ChainFault>
-    ensures { Answers (checked (certificates_break chain.now hash.now)) result }
+    ensures answer { Answers (checked (certificates_break chain.now hash.now)) result }
+    ensures named { IfErr result (λ f. (f ≡ OutOfMemory) ⊎ (f ≡ WrongCertificates)) }
 {
     match (chain, hash) {
         (None, None) => Ok(()),

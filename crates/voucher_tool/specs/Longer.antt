@@ -7,7 +7,8 @@ use Rattle.voucher_chain.specs.declared.fault.ChainFault.{ChainFault}
 use Rattle.voucher_chain.specs.declared.fault.ChainFault.TheVariants as fault
 use Rattle.voucher_chain.specs.declared.voucher.Voucher.{Voucher}
 use Rattle.voucher_chain.specs.Chain.{Verifies, last_key}
-use Rattle.voucher_chain.specs.Extended.{IsExtended, IsReadBack, Refuses}
+use Rattle.voucher_chain.specs.Extended.{AsksLonger, IsExtended, IsReadBack, MaySign, Refuses}
+use Rattle.suite_port.specs.Asked.{Ask}
 use Rattle.voucher_chain.specs.Reading.{IsVoucher, voucher_at}
 
 -- the bytes of a voucher that has one more entry; they are read as it where the next key is of the form and the voucher was
@@ -49,3 +50,18 @@ UnlessMemory said result = said result
 
 abbrev pub RefusesFile : {A : Type 0} → (List ℕ → Bool) → (List ℕ → Option ℤ) → List ℕ → Result A ChainFault → Type 0
 RefusesFile held algorithm bytes result = UnlessMemory (RefusesBytes held algorithm (voucher_at bytes)) result
+
+-- ---- what is asked of the suite
+
+-- for bytes that are made, one signature under the last owner's key, over the entry that they have more; where memory runs
+-- out, one or none, and where the voucher is refused, none
+abbrev pub AsksRaw : Verifies → Option (List Ask) → Option (List Ask) → PublicKey → Voucher → Result (List ℕ) ChainFault → Type 0
+AsksRaw verifies before after next v (Ok made) =
+    (longer : Voucher) × IsExtended verifies v next longer × (made ≡ longer.raw) × AsksLonger before after (owner_bytes v) v.entries (Ok longer)
+AsksRaw verifies before after next v (Err fault.NoMemory) = MaySign before after (owner_bytes v)
+AsksRaw verifies before after next v (Err f) = after ≡ before
+
+-- for bytes that are no voucher, none
+abbrev pub AsksFile : Verifies → Option (List Ask) → Option (List Ask) → PublicKey → Result Voucher ChainFault → Result (List ℕ) ChainFault → Type 0
+AsksFile verifies before after next (Ok v) result = AsksRaw verifies before after next v result
+AsksFile verifies before after next (Err f) result = after ≡ before

@@ -1,4 +1,5 @@
 ghost use Rattle.std.specs.Prelude.{◌≡◌, ◌≤◌, length, IfOk};
+ghost use Rattle.voucher_chain.specs.Chain.{AsksToCheckAll};
 ghost use Rattle.voucher_chain.specs.Fault.{Answers};
 ghost use Rattle.voucher_tool.specs.Check.{check_text, check_told};
 
@@ -11,12 +12,15 @@ use voucher_chain::{ChainFault, Voucher, check_chain};
 
 /// The text for a voucher whose chain of owners holds: the number of its entries, and the hash of the last owner's key as
 /// received. Its refusals are those of `check_chain`.
+#[tactic(auto, using(crate::proofs::Asking::asked_all))]
 pub fn check<S: Suite>(alloc: Global, suite: &mut S, voucher: &Voucher) -> Result<Blob, ChainFault>
     requires { length voucher.now.entries ≤ 255 }
     // The first break of the chain, or the text where nothing breaks it.
     ensures answer { Answers (check_told S.Verifier.verifies voucher.now) result }
     ensures held { S.Holder.held suite.new ≡ S.Holder.held suite.old }
     ensures faults { S.Holder.faults suite.new ≡ S.Holder.faults suite.old }
+    // The suite is asked for each entry's signature once, in their order, up to the first break.
+    ensures asked { AsksToCheckAll (S.Holder.asked suite.old) (S.Holder.asked suite.new) voucher.now.header.key voucher.now.entries result }
 {
     match check_chain(alloc, suite, voucher) {
         Ok(()) => Ok(ok_text(alloc, voucher)?),

@@ -1,6 +1,7 @@
 ghost use Rattle.std.specs.Prelude.{◌≡◌, ◌≤◌, length, IfOk};
 ghost use Rattle.voucher_chain.specs.Extended.{Counts, IsExtended};
-ghost use Rattle.voucher_tool.specs.Longer.{IsLonger, RefusesFile, RefusesVoucher, UnlessMemory, owner_bytes};
+ghost use Rattle.voucher_chain.specs.Reading.{voucher_at};
+ghost use Rattle.voucher_tool.specs.Longer.{AsksFile, AsksRaw, IsLonger, RefusesFile, RefusesVoucher, UnlessMemory, owner_bytes};
 
 use cbor_core::Blob;
 use key_codec::{PublicKey, key_bytes};
@@ -11,7 +12,7 @@ use voucher_chain::{ChainFault, Voucher, extend, owner_key, read_voucher};
 /// The bytes of the voucher with one more entry, made of the bytes of one. The refusals come in this order: those of
 /// `read_voucher`; `BadSignature` with the number of entries, exactly where the suite does not hold the last owner's key;
 /// those of `extend`. `NoMemory` may come at any place.
-#[tactic(auto, using(crate::proofs::Again::longer_file))]
+#[tactic(auto, using(crate::proofs::Again::longer_file, crate::proofs::Asking::asks_nothing))]
 pub fn extend_file<S: Suite>(
     alloc: Global,
     suite: &mut S,
@@ -24,6 +25,8 @@ pub fn extend_file<S: Suite>(
     ensures refused { RefusesFile (S.Holder.held suite.old) S.Signer.algorithm bytes.now result }
     ensures held { S.Holder.held suite.new ≡ S.Holder.held suite.old }
     ensures faults { Counts (S.Holder.faults suite.old) (S.Holder.faults suite.new) result }
+    // One signature is asked of the suite, over the new entry, and none where the bytes are refused.
+    ensures asked { AsksFile S.Verifier.verifies (S.Holder.asked suite.old) (S.Holder.asked suite.new) next.now (voucher_at bytes.now) result }
 {
     match read_voucher(alloc, bytes) {
         Ok(voucher) => extend_voucher(alloc, suite, &voucher, next),
@@ -44,6 +47,7 @@ fn extend_voucher<S: Suite>(
     ensures refused { UnlessMemory (RefusesVoucher (S.Holder.held suite.old) S.Signer.algorithm voucher.now) result }
     ensures held { S.Holder.held suite.new ≡ S.Holder.held suite.old }
     ensures faults { Counts (S.Holder.faults suite.old) (S.Holder.faults suite.new) result }
+    ensures asked { AsksRaw S.Verifier.verifies (S.Holder.asked suite.old) (S.Holder.asked suite.new) next.now voucher.now result }
 {
     let owner = key_bytes(alloc, owner_key(voucher))?;
     if !suite.holds(owner.as_list()) {

@@ -1,7 +1,7 @@
 use Rattle.std.proofs.Common.{◌≡◌, ◌++◌, [], length, ap, subst, ◌∙◌, append-nil, Ok, Err, arith}
 use Rattle.voucher_chain.specs.Chain.{links_break, entry_break, front, checked}
 use Rattle.voucher_chain.specs.Fault.{Fails}
-use Rattle.voucher_chain.specs.Chain.{AsksToCheckAll}
+use Rattle.voucher_chain.specs.Chain.{AsksToCheckAll, AsksUpTo}
 use Rattle.voucher_chain.proofs.AskLaws.{remains_all, remains_next, remains_refused}
 use Rattle.voucher_chain.proofs.ChainLaws.{entry_fails, entry_holds, entries_hold}
 use Rattle.voucher_chain.proofs.chain.check_entries.Goals as goal
@@ -42,11 +42,11 @@ returns-clause-answer g c =
 
 pub returns-in-Err-clause-asked : goal.returns-in-Err-clause-asked
 returns-in-Err-clause-asked g c =
-    subst (λ (es : _). AsksToCheckAll (g.S.Holder.asked c.args.suite.now) (g.S.Holder.asked c.check_link.new.suite) c.args.voucher.now.header.key es (Err c.in-Err.fault)) c.as_list-entries.ensures
-    (remains_refused (g.S.Holder.asked c.args.suite.now) (g.S.Holder.asked c.loop-entry.suite) (g.S.Holder.asked c.check_link.new.suite) c.args.voucher.now.header.key c.loop-entry.signer.now c.as_list-entries.result.now c.loop-entry.entry-index c.entry-item.result
-    c.loop-entry.invariant.asked c.loop-entry-test.true c.entry-item.is c.in-Err.fault c.in-Err.ensures.asked)
+    subst (λ (es : _). AsksUpTo (g.S.Holder.asked c.args.suite.now) (g.S.Holder.asked c.check_link.new.suite) c.args.voucher.now.header.key es c.in-Err.fault) c.as_list-entries.ensures
+    (remains_refused (g.S.Holder.asked c.args.suite.now) (g.S.Holder.asked c.loop-entry.suite) (g.S.Holder.asked c.check_link.new.suite) c.args.voucher.now.header.key c.loop-entry.signer.now c.as_list-entries.result.now c.loop-entry.entry-index c.loop-entry.index c.entry-item.result
+    c.loop-entry.invariant.asked c.loop-entry-test.true c.entry-item.is c.loop-entry.invariant.index c.in-Err.fault c.in-Err.ensures.asked)
 
 pub returns-clause-asked : goal.returns-clause-asked
 returns-clause-asked g c =
-    subst (λ (es : _). AsksToCheckAll (g.S.Holder.asked c.args.suite.now) (g.S.Holder.asked c.loop-entry.suite) c.args.voucher.now.header.key es (Ok tt)) c.as_list-entries.ensures
+    subst (λ (es : _). AsksToCheckAll {A = Unit {0}} (g.S.Holder.asked c.args.suite.now) (g.S.Holder.asked c.loop-entry.suite) c.args.voucher.now.header.key es (Ok tt)) c.as_list-entries.ensures
     (remains_all (g.S.Holder.asked c.args.suite.now) (g.S.Holder.asked c.loop-entry.suite) c.args.voucher.now.header.key c.loop-entry.signer.now c.as_list-entries.result.now c.loop-entry.entry-index c.loop-entry.invariant.asked c.loop-entry-test.false)
