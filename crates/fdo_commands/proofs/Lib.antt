@@ -8,5 +8,6 @@ pub mod EndingMore
 pub mod RvCounts
 pub mod OneInput
 pub mod TextsMore
+pub mod ChecksMore
 pub mod ExtendMore
 pub mod RanMore

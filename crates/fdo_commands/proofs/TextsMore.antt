@@ -1,6 +1,6 @@
 -- How a command ends that writes one text for its whole input.
-use Rattle.std.proofs.Common.{◌≡◌, ◌≢◌, ℕ, List, Result, Ok, Err, sym, subst}
-use Rattle.std.specs.Prelude.{IfOk}
+use Rattle.std.proofs.Common.{◌≡◌, ◌≢◌, inl, inr, ℕ, List, Result, Ok, Err, sym, subst}
+use Rattle.std.specs.Prelude.{MatchResult}
 use Rattle.port_base.specs.Count.{Rises}
 use Rattle.fdo_commands.specs.Ending.{Streams}
 use Rattle.fdo_commands.specs.Stream.{InputCounts, ReadsInput, TookAll}
@@ -11,34 +11,33 @@ use Rattle.fdo_commands.specs.declared.status.Status.{Status}
 use Rattle.fdo_commands.specs.declared.status.Status.TheVariants as status
 use Rattle.fdo_commands.specs.declared.texts.Told.{Told}
 
-module _ (Tells : List ℕ → Told → Type 0) (before after : Streams) where
+module _ {S : Type 0} (Tells : S → List ℕ → Told → S → Type 0) (GivesUp : S → List ℕ → S → Type 0) (s t : S) (before after : Streams) where
   -- the input is read to its end
-  whole : (bytes : List ℕ) → TookAll before.left after.left bytes → after.read_faults ≡ before.read_faults → (what : Told) → Tells bytes what → (ending : Status) → WritesTold what before.written before.write_faults after.written after.write_faults ending → TextEnds Tells before after ending
+  whole : (bytes : List ℕ) → TookAll before.left after.left bytes → after.read_faults ≡ before.read_faults → (what : Told) → Tells s bytes what t → (ending : Status) → WritesTold what before.written before.write_faults after.written after.write_faults ending → TextEnds Tells GivesUp s t before after ending
   whole bytes took same what is status.Done writes = (bytes, took, same, what, is, writes)
   whole bytes took same what is status.Words writes = absurd writes
   whole bytes took same what is status.Input writes = (bytes, took, same, what, is, writes)
   whole bytes took same what is status.Read writes = absurd writes
   whole bytes took same what is status.Write writes = (bytes, took, same, what, is, writes)
-  whole bytes took same what is status.NoMemory writes = (bytes, took.took, same, writes.0, writes.1)
+  whole bytes took same what is status.NoMemory writes = absurd writes
   whole bytes took same what is status.Limit writes = absurd writes
   whole bytes took same what is status.Refused writes = (bytes, took, same, what, is, writes)
   whole bytes took same what is status.Outside writes = absurd writes
 
-  pub found_ends : {E : Type 0} (bytes : List ℕ) → TookAll before.left after.left bytes → after.read_faults ≡ before.read_faults → (found : Result Told E) → IfOk found (Tells bytes) → (ending : Status) → WritesFound found before.written before.write_faults after.written after.write_faults ending → TextEnds Tells before after ending
-  found_ends bytes took same (Ok what) is ending writes =
-      whole bytes took same what is ending writes
-  found_ends bytes took same (Err _) is ending writes =
-      subst (TextEnds Tells before after) (sym writes.0) (bytes, took.took, same, writes.1, writes.2)
+  pub found_ends : {E : Type 0} (bytes : List ℕ) → TookAll before.left after.left bytes → after.read_faults ≡ before.read_faults → (found : Result Told E) → MatchResult found (λ what. Tells s bytes what t) (λ _. GivesUp s bytes t) → (ending : Status) → WritesFound found before.written before.write_faults after.written after.write_faults ending → TextEnds Tells GivesUp s t before after ending
+  found_ends bytes took same (Ok what) is ending writes = whole bytes took same what is ending writes
+  found_ends bytes took same (Err _) leaves ending writes =
+      subst (TextEnds Tells GivesUp s t before after) (sym writes.0) (bytes, took.took, same, writes.1, writes.2, inr (took, leaves))
 
   -- it is not
-  pub unread_ends : (fault : InputFault) → ReadsInput before.left after.left (Err fault) → InputCounts before.read_faults after.read_faults (Err fault) → (ending : Status) → InputFails fault before.written before.write_faults after.written after.write_faults ending → TextEnds Tells before after ending
-  unread_ends faults.Read read counts ending fails = subst (TextEnds Tells before after) (sym fails.0) (read.0, read.1, read.2, counts, fails.1)
-  unread_ends faults.Limit read counts ending fails = subst (TextEnds Tells before after) (sym fails.0) (read.0, read.1, read.2, counts, fails.1)
-  unread_ends faults.NoMemory read counts ending fails = subst (TextEnds Tells before after) (sym fails.0) (read.0, read.1, counts, fails.1, fails.2)
+  pub unread_ends : t ≡ s → (fault : InputFault) → ReadsInput before.left after.left (Err fault) → InputCounts before.read_faults after.read_faults (Err fault) → (ending : Status) → InputFails fault before.written before.write_faults after.written after.write_faults ending → TextEnds Tells GivesUp s t before after ending
+  unread_ends still faults.Read read counts ending fails = subst (TextEnds Tells GivesUp s t before after) (sym fails.0) (read.0, read.1, read.2, counts, still, fails.1)
+  unread_ends still faults.Limit read counts ending fails = subst (TextEnds Tells GivesUp s t before after) (sym fails.0) (read.0, read.1, read.2, counts, still, fails.1)
+  unread_ends still faults.NoMemory read counts ending fails = subst (TextEnds Tells GivesUp s t before after) (sym fails.0) (read.0, read.1, counts, fails.1, fails.2, inl still)
 
-  module _ (ending : Status) (ends : TextEnds Tells before after ending) where
-    at : (e : Status) → ending ≡ e → TextEnds Tells before after e
-    at e is = subst (TextEnds Tells before after) is ends
+  module _ (ending : Status) (ends : TextEnds Tells GivesUp s t before after ending) where
+    at : (e : Status) → ending ≡ e → TextEnds Tells GivesUp s t before after e
+    at e is = subst (TextEnds Tells GivesUp s t before after) is ends
 
     pub text_done : ending ≡ status.Done → (after.read_faults ≡ before.read_faults) × (after.write_faults ≡ before.write_faults)
     text_done is = let done = at status.Done is in (done.2, done.5.2.1)

@@ -1,5 +1,5 @@
 -- The words of a command that say bytes and keys.
-use Rattle.std.specs.Prelude.{ℕ, List, Option, Some, None, Result, Ok, Err}
+use Rattle.std.specs.Prelude.{ℕ, List, [], ◌∷◌, Option, Some, None, Result, Ok, Err}
 use Rattle.cbor_core.specs.Whole.{whole}
 use Rattle.cbor_core.specs.declared.item.Item.{Item}
 use Rattle.hex.specs.Hex.{decode_of}
@@ -9,10 +9,11 @@ use Rattle.key_codec.specs.Fault.{ok_of}
 use Rattle.key_codec.specs.Key.{key_in}
 
 abbrev pub decoded : Result (List ℕ) FromHexError → Option (List ℕ)
-decoded (Ok bytes) = Some bytes
+decoded (Ok []) = None
+decoded (Ok (byte ∷ bytes)) = Some (byte ∷ bytes)
 decoded (Err error) = None
 
--- the bytes that a word says in hex, with digits of either case
+-- the bytes, one at least, that a word says in hex, with digits of either case
 abbrev pub bytes_said : List ℕ → Option (List ℕ)
 bytes_said word = decoded (decode_of word)
 

@@ -1,16 +1,23 @@
 -- The objects of the outside, as a command meets them.
 use Rattle.std.specs.Prelude.{◌≡◌, ℕ, ℤ, Bool, List, Option, codes}
+use Rattle.port_base.specs.Told.{grown}
 use Rattle.fdo_ports.specs.Draw.{Drawn}
+use Rattle.suite_port.specs.Asked.{Ask}
 use Rattle.voucher_chain.specs.Chain.{Verifies}
 use Rattle.fdo_commands.specs.Ending.{EndsWith, Streams, streams}
 
--- the keys that a suite holds, and its count of faults
+-- the keys that a suite holds, its count of faults, and what it was asked, where it tells
 pub record Keys : Type 0 where
   pub held : List ℕ → Bool
   pub faults : ℕ
+  pub asked : Option (List Ask)
 
-abbrev pub keys : (List ℕ → Bool) → ℕ → Keys
-keys held faults = record { held = held; faults = faults }
+abbrev pub keys : (List ℕ → Bool) → ℕ → Option (List Ask) → Keys
+keys held faults asked = record { held = held; faults = faults; asked = asked }
+
+-- the suite is asked these, and nothing else is done to it
+abbrev pub asking : Keys → List Ask → Keys
+asking suite asks = keys suite.held suite.faults (grown suite.asked asks)
 
 -- what the objects tell, and their counts of faults
 pub record Outside : Type 0 where
@@ -18,10 +25,10 @@ pub record Outside : Type 0 where
   pub suite : Keys
   pub random : Drawn
 
-abbrev pub outside : Option (List ℕ) → ℕ → Option (List ℕ) → ℕ → (List ℕ → Bool) → ℕ → Option (List (List ℕ)) → ℕ → Outside
-outside left read_faults written write_faults held suite_faults draws draw_faults = record {
+abbrev pub outside : Option (List ℕ) → ℕ → Option (List ℕ) → ℕ → (List ℕ → Bool) → ℕ → Option (List Ask) → Option (List (List ℕ)) → ℕ → Outside
+outside left read_faults written write_faults held suite_faults asked draws draw_faults = record {
   streams = streams left read_faults written write_faults;
-  suite = record { held = held; faults = suite_faults };
+  suite = keys held suite_faults asked;
   random = record { draws = draws; faults = draw_faults };
 }
 

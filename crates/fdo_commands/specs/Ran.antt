@@ -8,7 +8,7 @@ use Rattle.fdo_commands.specs.Ending.{Ends}
 use Rattle.fdo_commands.specs.Extending.{ExtendEnds}
 use Rattle.fdo_commands.specs.Outside.{Outside, RanNone, Signing}
 use Rattle.fdo_commands.specs.Texts.{TextEnds}
-use Rattle.fdo_commands.specs.Vouchers.{Checks, Shows}
+use Rattle.fdo_commands.specs.Vouchers.{Checks, ChecksFront, Keeps, Shows}
 use Rattle.fdo_commands.specs.declared.command.Command.{Command}
 use Rattle.fdo_commands.specs.declared.command.Command.TheVariants.{StepRendezvous, VoucherShow, VoucherCheck, VoucherExtend}
 use Rattle.fdo_commands.specs.declared.status.Status.{Status}
@@ -20,9 +20,9 @@ Ran signs StepRendezvous before after ending =
     Ends RvStep RvGivesUp (record { random = before.random }) (record { random = after.random }) before.streams after.streams ending
     × (after.suite ≡ before.suite) × (ending ≡ status.Outside → Rises before.random.faults after.random.faults)
 Ran signs VoucherShow before after ending =
-    TextEnds Shows before.streams after.streams ending × (after.suite ≡ before.suite) × (after.random ≡ before.random)
+    TextEnds {S = Unit {0}} Shows Keeps tt tt before.streams after.streams ending × (after.suite ≡ before.suite) × (after.random ≡ before.random)
 Ran signs VoucherCheck before after ending =
-    TextEnds (Checks signs.verifies) before.streams after.streams ending × (after.suite ≡ before.suite) × (after.random ≡ before.random)
+    TextEnds (Checks signs.verifies) ChecksFront before.suite after.suite before.streams after.streams ending × (after.random ≡ before.random)
 Ran signs (VoucherExtend next private) before after ending =
     ExtendEnds signs next private before.suite after.suite before.streams after.streams ending × (after.random ≡ before.random)
 

@@ -1,5 +1,5 @@
 -- How a command ends that writes one text for its whole input.
-use Rattle.std.specs.Prelude.{◌≡◌, ℕ, ◌<◌, ◌≤◌, List, length, codes, Option, Result, Ok, Err}
+use Rattle.std.specs.Prelude.{◌≡◌, ◌⊎◌, ℕ, ◌<◌, ◌≤◌, List, length, codes, Option, Result, Ok, Err}
 use Rattle.port_base.specs.Count.{Rises}
 use Rattle.fdo_commands.specs.Answering.{CutShort}
 use Rattle.fdo_commands.specs.Ending.{EndsWith, Streams, Wrote, wrong_input}
@@ -25,8 +25,6 @@ WritesTold what written faults written' faults' status.Refused =
 -- the input is not of the command's form
 WritesTold what written faults written' faults' status.Input =
     (place : ℕ) × (what ≡ told.Wrong place) × EndsWith written faults written' faults' (wrong_input place)
--- memory runs out, and nothing is written
-WritesTold what written faults written' faults' status.NoMemory = (written' ≡ written) × (faults' ≡ faults)
 WritesTold what written faults written' faults' _ = ⊥
 
 -- the same where memory may have run out before it is told
@@ -43,21 +41,23 @@ InputFails faults.Limit written faults written' faults' ending =
 InputFails faults.NoMemory written faults written' faults' ending =
     (ending ≡ status.NoMemory) × (written' ≡ written) × (faults' ≡ faults)
 
--- how the command ends: `Tells` is what it may tell of the bytes of its input
-abbrev pub TextEnds : (List ℕ → Told → Type 0) → Streams → Streams → Status → Type 0
+-- how the command ends. What it was lent beside its streams stands for a state: `Tells` is what it may tell of the bytes of
+-- its input, and what that does to the state, and `GivesUp` what want of memory behind the input leaves of it
+abbrev pub TextEnds : {S : Type 0} → (S → List ℕ → Told → S → Type 0) → (S → List ℕ → S → Type 0) → S → S → Streams → Streams → Status → Type 0
 -- the input fails
-TextEnds Tells before after status.Read =
+TextEnds Tells GivesUp s t before after status.Read =
     (bytes : List ℕ) × Took before.left after.left bytes × (length bytes ≤ most_bytes) × Rises before.read_faults after.read_faults
-    × EndsWith before.written before.write_faults after.written after.write_faults (codes "fault read\n")
+    × (t ≡ s) × EndsWith before.written before.write_faults after.written after.write_faults (codes "fault read\n")
 -- the input has more than the most bytes
-TextEnds Tells before after status.Limit =
+TextEnds Tells GivesUp s t before after status.Limit =
     (bytes : List ℕ) × Took before.left after.left bytes × (most_bytes < length bytes) × (after.read_faults ≡ before.read_faults)
-    × EndsWith before.written before.write_faults after.written after.write_faults (codes "fault limit\n")
--- memory runs out, while the input is read or behind it
-TextEnds Tells before after status.NoMemory =
+    × (t ≡ s) × EndsWith before.written before.write_faults after.written after.write_faults (codes "fault limit\n")
+-- memory runs out, perhaps before the input's end, and nothing is written
+TextEnds Tells GivesUp s t before after status.NoMemory =
     (bytes : List ℕ) × Took before.left after.left bytes × (after.read_faults ≡ before.read_faults)
     × (after.written ≡ before.written) × (after.write_faults ≡ before.write_faults)
+    × ((t ≡ s) ⊎ (TookAll before.left after.left bytes × GivesUp s bytes t))
 -- the input is read to its end
-TextEnds Tells before after ending =
+TextEnds Tells GivesUp s t before after ending =
     (bytes : List ℕ) × TookAll before.left after.left bytes × (after.read_faults ≡ before.read_faults)
-    × (what : Told) × Tells bytes what × WritesTold what before.written before.write_faults after.written after.write_faults ending
+    × (what : Told) × Tells s bytes what t × WritesTold what before.written before.write_faults after.written after.write_faults ending

@@ -1,9 +1,9 @@
-ghost use Rattle.std.specs.Prelude.{◌≡◌, ◌||◌, IfOk, drop};
-ghost use Rattle.fdo_commands.specs.Answering.{AnswersAll, AnswersOne, StopCounts, names_fault};
+ghost use Rattle.std.specs.Prelude.{◌≡◌, IfOk, drop};
+ghost use Rattle.fdo_commands.specs.Answering.{AnswersAll, AnswersOne, StopCounts, blamed as blamed_by, rank as rank_of, sooner as sooner_of};
 ghost use Rattle.fdo_commands.specs.Line.{answer_line, packet_line, token_word};
 
 use cbor_core::NoMemory;
-use fdo_msgs::{Answer, Cause, Handler, Packet, Token};
+use fdo_msgs::{Answer, Cause, Handler, Object, Packet, Token};
 use fdo_ports::{Sink, write_all};
 use itoa::Buffer;
 use std::alloc::Global;
@@ -15,13 +15,14 @@ pub(crate) enum Stop {
     NoMemory,
 }
 
-/// Answers the messages one after another, a line each, and says whether an object of the outside failed meanwhile.
+/// Answers the messages one after another, a line each, and says which object of the outside failed meanwhile; of several
+/// the one that the last line names.
 pub(crate) fn answer_all<H: Handler, O: Sink>(
     alloc: Global,
     handler: &mut H,
     packets: &[Packet],
     output: &mut O,
-) -> Result<bool, Stop>
+) -> Result<Option<Object>, Stop>
     requires { H.ready handler.old }
     ensures answers { AnswersAll H.Steps H.GivesUp (H.state handler.old) packets.now (H.state handler.new)
         (O.Channel.written output.old) (O.Channel.written output.new) result }
@@ -31,29 +32,52 @@ pub(crate) fn answer_all<H: Handler, O: Sink>(
     ensures same_left { O.Channel.left output.new ≡ O.Channel.left output.old }
     ensures same_read_faults { O.Channel.read_faults output.new ≡ O.Channel.read_faults output.old }
 {
-    let mut fault = false;
+    let mut fault = None;
     for packet in packets {
         match answer_one(alloc, handler, packet, output) {
-            Ok(one) => fault = either(fault, one),
+            Ok(one) => fault = sooner(fault, one),
             Err(stop) => return Err(stop),
         }
     }
     Ok(fault)
 }
 
-fn either(one: bool, other: bool) -> bool
-    ensures { result ≡ (one || other) }
+/// The one of two objects that the last line names.
+fn sooner(one: Option<Object>, other: Option<Object>) -> Option<Object>
+    ensures { result ≡ sooner_of one other }
 {
-    one || other
+    match (one, other) {
+        (None, other) => other,
+        (Some(one), None) => Some(one),
+        (Some(one), Some(other)) => {
+            if rank(other) < rank(one) {
+                Some(other)
+            } else {
+                Some(one)
+            }
+        }
+    }
 }
 
-/// Answers one message, and says whether an object of the outside failed.
+fn rank(object: Object) -> u8
+    ensures { result ≡ rank_of object }
+{
+    match object {
+        Object::Signer => 0,
+        Object::Random => 1,
+        Object::Clock => 2,
+        Object::Disk => 3,
+        Object::Shut => 4,
+    }
+}
+
+/// Answers one message, and says which object of the outside failed.
 fn answer_one<H: Handler, O: Sink>(
     alloc: Global,
     handler: &mut H,
     packet: &Packet,
     output: &mut O,
-) -> Result<bool, Stop>
+) -> Result<Option<Object>, Stop>
     requires { H.ready handler.old }
     ensures answer { AnswersOne H.Steps H.GivesUp (H.state handler.old) packet.now (H.state handler.new)
         (O.Channel.written output.old) (O.Channel.written output.new) result }
@@ -70,20 +94,20 @@ fn answer_one<H: Handler, O: Sink>(
         return Err(Stop::NoMemory);
     };
     match write_all(output, line.as_slice()) {
-        Ok(()) => Ok(is_fault(&answer)),
+        Ok(()) => Ok(blamed(&answer)),
         Err(_) => Err(Stop::Write),
     }
 }
 
-fn is_fault(answer: &Answer) -> bool
-    ensures { result ≡ names_fault answer.now }
+fn blamed(answer: &Answer) -> Option<Object>
+    ensures { result ≡ blamed_by answer.now }
 {
     match answer {
         Answer::Refused {
             reply: _,
-            cause: Cause::Outside(_),
-        } => true,
-        _ => false,
+            cause: Cause::Outside(object),
+        } => Some(*object),
+        _ => None,
     }
 }
 

@@ -1,10 +1,9 @@
-ghost use Rattle.std.specs.Prelude.{◌≡◌, ◌⊎◌, ℕ, List, true, false, IfOk, IfErr};
-ghost use Rattle.port_base.specs.Count.{Rises};
-ghost use Rattle.fdo_commands.specs.declared.status.Status.TheVariants as status;
+ghost use Rattle.std.specs.Prelude.{◌≡◌, MatchResult};
 ghost use Rattle.fdo_commands.specs.Ending.{streams};
-ghost use Rattle.fdo_commands.specs.Extending.{EntryEnds, ExtendEnds, Unloaded};
+ghost use Rattle.fdo_commands.specs.Extending.{ExtendEnds, Unloaded};
 ghost use Rattle.fdo_commands.specs.Outside.{keys, signing};
-ghost use Rattle.fdo_commands.specs.Vouchers.{Extends};
+ghost use Rattle.fdo_commands.specs.Texts.{TextEnds};
+ghost use Rattle.fdo_commands.specs.Vouchers.{Extends, ExtendsFront};
 
 use crate::fault_line::end_with;
 use crate::input::read_input;
@@ -29,37 +28,8 @@ pub(crate) fn voucher_extend<I: Source, O: Sink, S: Suite>(
     suite: &mut S,
 ) -> Status
     ensures ends { ExtendEnds (signing S.Verifier.verifies S.Signer.algorithm S.Signer.loads) next.now private.now
-        (keys (S.Holder.held suite.old) (S.Holder.faults suite.old)) (keys (S.Holder.held suite.new) (S.Holder.faults suite.new))
-        (streams (I.Channel.left input.old) (I.Channel.read_faults input.old)
-        (O.Channel.written output.old) (O.Channel.write_faults output.old))
-        (streams (I.Channel.left input.new) (I.Channel.read_faults input.new)
-        (O.Channel.written output.new) (O.Channel.write_faults output.new)) result }
-    ensures words { result ≡ status.Words → S.Signer.loads private.now ≡ false }
-    ensures done { result ≡ status.Done → (S.Holder.faults suite.new ≡ S.Holder.faults suite.old)
-        × (I.Channel.read_faults input.new ≡ I.Channel.read_faults input.old)
-        × (O.Channel.write_faults output.new ≡ O.Channel.write_faults output.old) }
-    ensures read { result ≡ status.Read → Rises (I.Channel.read_faults input.old) (I.Channel.read_faults input.new) }
-    ensures write { result ≡ status.Write → Rises (O.Channel.write_faults output.old) (O.Channel.write_faults output.new) }
-    ensures outside_failed { result ≡ status.Outside → Rises (S.Holder.faults suite.old) (S.Holder.faults suite.new) }
-    ensures held { (key : List ℕ) → S.Holder.held suite.old key ≡ true → S.Holder.held suite.new key ≡ true }
-    ensures input_written { I.Channel.written input.new ≡ I.Channel.written input.old }
-    ensures input_write_faults { I.Channel.write_faults input.new ≡ I.Channel.write_faults input.old }
-    ensures output_left { O.Channel.left output.new ≡ O.Channel.left output.old }
-    ensures output_read_faults { O.Channel.read_faults output.new ≡ O.Channel.read_faults output.old }
-{
-    load_and_extend(alloc, next, private, input, output, suite)
-}
-
-fn load_and_extend<I: Source, O: Sink, S: Suite>(
-    alloc: Global,
-    next: &PublicKey,
-    private: &[u8],
-    input: &mut I,
-    output: &mut O,
-    suite: &mut S,
-) -> Status
-    ensures ends { ExtendEnds (signing S.Verifier.verifies S.Signer.algorithm S.Signer.loads) next.now private.now
-        (keys (S.Holder.held suite.old) (S.Holder.faults suite.old)) (keys (S.Holder.held suite.new) (S.Holder.faults suite.new))
+        (keys (S.Holder.held suite.old) (S.Holder.faults suite.old) (S.Holder.asked suite.old))
+        (keys (S.Holder.held suite.new) (S.Holder.faults suite.new) (S.Holder.asked suite.new))
         (streams (I.Channel.left input.old) (I.Channel.read_faults input.old)
         (O.Channel.written output.old) (O.Channel.write_faults output.old))
         (streams (I.Channel.left input.new) (I.Channel.read_faults input.new)
@@ -102,13 +72,13 @@ fn extend_input<I: Source, O: Sink, S: Suite>(
     output: &mut O,
     suite: &mut S,
 ) -> Status
-    ensures ends { EntryEnds (signing S.Verifier.verifies S.Signer.algorithm S.Signer.loads)
-        (S.Holder.held suite.old) next.now (S.Holder.faults suite.old) (S.Holder.faults suite.new)
+    ensures ends { TextEnds (Extends (signing S.Verifier.verifies S.Signer.algorithm S.Signer.loads) next.now) ExtendsFront
+        (keys (S.Holder.held suite.old) (S.Holder.faults suite.old) (S.Holder.asked suite.old))
+        (keys (S.Holder.held suite.new) (S.Holder.faults suite.new) (S.Holder.asked suite.new))
         (streams (I.Channel.left input.old) (I.Channel.read_faults input.old)
         (O.Channel.written output.old) (O.Channel.write_faults output.old))
         (streams (I.Channel.left input.new) (I.Channel.read_faults input.new)
         (O.Channel.written output.new) (O.Channel.write_faults output.new)) result }
-    ensures held { S.Holder.held suite.new ≡ S.Holder.held suite.old }
     ensures input_written { I.Channel.written input.new ≡ I.Channel.written input.old }
     ensures input_write_faults { I.Channel.write_faults input.new ≡ I.Channel.write_faults input.old }
     ensures output_left { O.Channel.left output.new ≡ O.Channel.left output.old }
@@ -129,11 +99,12 @@ fn extend_bytes<S: Suite>(
     suite: &mut S,
     bytes: &[u8],
 ) -> Result<Told, NoMemory>
-    ensures told { IfOk result (Extends S.Verifier.verifies S.Signer.algorithm (S.Holder.held suite.old) next.now
-        (S.Holder.faults suite.old) (S.Holder.faults suite.new) bytes.now) }
-    ensures memory { IfErr result (λ _. (S.Holder.faults suite.new ≡ S.Holder.faults suite.old)
-        ⊎ Rises (S.Holder.faults suite.old) (S.Holder.faults suite.new)) }
-    ensures held { S.Holder.held suite.new ≡ S.Holder.held suite.old }
+    ensures { MatchResult result
+        (λ what. Extends (signing S.Verifier.verifies S.Signer.algorithm S.Signer.loads) next.now
+        (keys (S.Holder.held suite.old) (S.Holder.faults suite.old) (S.Holder.asked suite.old)) bytes.now what
+        (keys (S.Holder.held suite.new) (S.Holder.faults suite.new) (S.Holder.asked suite.new)))
+        (λ _. ExtendsFront (keys (S.Holder.held suite.old) (S.Holder.faults suite.old) (S.Holder.asked suite.old)) bytes.now
+        (keys (S.Holder.held suite.new) (S.Holder.faults suite.new) (S.Holder.asked suite.new))) }
 {
     match extend_file(alloc, suite, bytes, next) {
         Ok(longer) => Ok(Told::Text(longer)),

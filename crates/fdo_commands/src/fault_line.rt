@@ -1,7 +1,9 @@
 ghost use Rattle.std.specs.Prelude.{◌≡◌, ◌≤◌, ◌++◌, length, codes};
+ghost use Rattle.fdo_commands.specs.Answering.{fault_line as line_of};
 ghost use Rattle.fdo_commands.specs.Ending.{EndsWith, wrong_input};
 
 use arrayvec::ArrayString;
+use fdo_msgs::Object;
 use fdo_ports::{Sink, write_all};
 use itoa::Buffer;
 
@@ -38,4 +40,17 @@ fn wrong_input_line(digits: &str) -> ArrayString<40>
     line.push_str(digits);
     line.push_str("\n");
     line
+}
+
+/// The last line of a command for which an object of the outside failed.
+pub(crate) fn object_line(object: Object) -> &'static [u8]
+    ensures { result.now ≡ line_of object }
+{
+    match object {
+        Object::Signer => b"fault signer\n",
+        Object::Random => b"fault random\n",
+        Object::Clock => b"fault clock\n",
+        Object::Disk => b"fault disk\n",
+        Object::Shut => b"fault disk\n",
+    }
 }

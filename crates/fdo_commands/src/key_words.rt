@@ -10,11 +10,12 @@ use hex::FromHexError;
 use key_codec::{KeyFault, PublicKey, read_key};
 use std::alloc::Global;
 
-/// The bytes that a word says in hex, with digits of either case, or None where it says none.
+/// The bytes, one at least, that a word says in hex, with digits of either case, or None where it says none.
 pub(crate) fn read_bytes(alloc: Global, word: &Text) -> Result<Option<Blob>, NoMemory>
     ensures { IfOk result (λ found. found ≡ bytes_said word.now) }
 {
     match hex::decode(alloc, word.as_list().as_bytes()) {
+        Ok(bytes) if bytes.is_empty() => Ok(None),
         Ok(bytes) => Ok(Some(Blob::new(bytes))),
         Err(FromHexError::OutOfMemory) => Err(NoMemory),
         Err(_) => Ok(None),

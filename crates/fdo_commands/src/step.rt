@@ -2,10 +2,11 @@ ghost use Rattle.std.specs.Prelude.{◌≡◌};
 ghost use Rattle.fdo_commands.specs.Ending.{AnswersBytes, Ends, streams};
 
 use crate::answers::{Stop, answer_all};
-use crate::fault_line::{end_with, end_with_place};
-use crate::input::{InputFault, read_input};
+use crate::fault_line::{end_with, end_with_place, object_line};
+use crate::input::read_input;
 use crate::lines::{LinesFault, read_lines};
 use crate::status::Status;
+use crate::texts::end_unread;
 use fdo_msgs::Handler;
 use fdo_ports::{Sink, Source};
 use std::alloc::Global;
@@ -32,15 +33,7 @@ pub(crate) fn step<H: Handler, I: Source, O: Sink>(
 {
     match read_input(alloc, input) {
         Ok(bytes) => answer_bytes(alloc, handler, bytes.as_slice(), output),
-        Err(InputFault::Read) => {
-            end_with(output, b"fault read\n");
-            Status::Read
-        }
-        Err(InputFault::Limit) => {
-            end_with(output, b"fault limit\n");
-            Status::Limit
-        }
-        Err(InputFault::NoMemory) => Status::NoMemory,
+        Err(fault) => end_unread(output, fault),
     }
 }
 
@@ -69,9 +62,9 @@ fn answer_bytes<H: Handler, O: Sink>(
         Err(LinesFault::NoMemory) => return Status::NoMemory,
     };
     match answer_all(alloc, handler, packets.as_slice(), output) {
-        Ok(false) => Status::Done,
-        Ok(true) => {
-            end_with(output, b"fault random\n");
+        Ok(None) => Status::Done,
+        Ok(Some(object)) => {
+            end_with(output, object_line(object));
             Status::Outside
         }
         Err(Stop::Write) => Status::Write,

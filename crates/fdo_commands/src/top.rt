@@ -31,20 +31,20 @@ pub fn fdo<I: Source, O: Sink, S: Suite, N: Random>(
     ensures unnamed { ((command : Command) → Names words.now command → ⊥) → RanUnnamed words.now
         (outside (I.Channel.left input.old) (I.Channel.read_faults input.old)
         (O.Channel.written output.old) (O.Channel.write_faults output.old)
-        (S.Holder.held suite.old) (S.Holder.faults suite.old) (N.draws random.old) (N.faults random.old))
+        (S.Holder.held suite.old) (S.Holder.faults suite.old) (S.Holder.asked suite.old) (N.draws random.old) (N.faults random.old))
         (outside (I.Channel.left input.new) (I.Channel.read_faults input.new)
         (O.Channel.written output.new) (O.Channel.write_faults output.new)
-        (S.Holder.held suite.new) (S.Holder.faults suite.new) (N.draws random.new) (N.faults random.new)) result }
+        (S.Holder.held suite.new) (S.Holder.faults suite.new) (S.Holder.asked suite.new) (N.draws random.new) (N.faults random.new)) result }
     // Else the command's private key is none of the suite's.
     ensures words { result ≡ status.Words → (command : Command) → Names words.now command → Unloadable S.Signer.loads command }
     // What the command did.
     ensures ran { (command : Command) → Names words.now command → Ran (signing S.Verifier.verifies S.Signer.algorithm S.Signer.loads) command
         (outside (I.Channel.left input.old) (I.Channel.read_faults input.old)
         (O.Channel.written output.old) (O.Channel.write_faults output.old)
-        (S.Holder.held suite.old) (S.Holder.faults suite.old) (N.draws random.old) (N.faults random.old))
+        (S.Holder.held suite.old) (S.Holder.faults suite.old) (S.Holder.asked suite.old) (N.draws random.old) (N.faults random.old))
         (outside (I.Channel.left input.new) (I.Channel.read_faults input.new)
         (O.Channel.written output.new) (O.Channel.write_faults output.new)
-        (S.Holder.held suite.new) (S.Holder.faults suite.new) (N.draws random.new) (N.faults random.new)) result }
+        (S.Holder.held suite.new) (S.Holder.faults suite.new) (S.Holder.asked suite.new) (N.draws random.new) (N.faults random.new)) result }
     ensures done { result ≡ status.Done → (N.faults random.new ≡ N.faults random.old)
         × (S.Holder.faults suite.new ≡ S.Holder.faults suite.old)
         × (I.Channel.read_faults input.new ≡ I.Channel.read_faults input.old)
@@ -82,20 +82,10 @@ fn run<I: Source, O: Sink, S: Suite, N: Random>(
     ensures ran { Ran (signing S.Verifier.verifies S.Signer.algorithm S.Signer.loads) command
         (outside (I.Channel.left input.old) (I.Channel.read_faults input.old)
         (O.Channel.written output.old) (O.Channel.write_faults output.old)
-        (S.Holder.held suite.old) (S.Holder.faults suite.old) (N.draws random.old) (N.faults random.old))
+        (S.Holder.held suite.old) (S.Holder.faults suite.old) (S.Holder.asked suite.old) (N.draws random.old) (N.faults random.old))
         (outside (I.Channel.left input.new) (I.Channel.read_faults input.new)
         (O.Channel.written output.new) (O.Channel.write_faults output.new)
-        (S.Holder.held suite.new) (S.Holder.faults suite.new) (N.draws random.new) (N.faults random.new)) result }
-    ensures words { result ≡ status.Words → Unloadable S.Signer.loads command }
-    ensures done { result ≡ status.Done → (N.faults random.new ≡ N.faults random.old)
-        × (S.Holder.faults suite.new ≡ S.Holder.faults suite.old)
-        × (I.Channel.read_faults input.new ≡ I.Channel.read_faults input.old)
-        × (O.Channel.write_faults output.new ≡ O.Channel.write_faults output.old) }
-    ensures read { result ≡ status.Read → Rises (I.Channel.read_faults input.old) (I.Channel.read_faults input.new) }
-    ensures write { result ≡ status.Write → Rises (O.Channel.write_faults output.old) (O.Channel.write_faults output.new) }
-    ensures outside_failed { result ≡ status.Outside → Rises (N.faults random.old) (N.faults random.new)
-        ⊎ Rises (S.Holder.faults suite.old) (S.Holder.faults suite.new) }
-    ensures held { (key : List ℕ) → S.Holder.held suite.old key ≡ true → S.Holder.held suite.new key ≡ true }
+        (S.Holder.held suite.new) (S.Holder.faults suite.new) (S.Holder.asked suite.new) (N.draws random.new) (N.faults random.new)) result }
     ensures input_written { I.Channel.written input.new ≡ I.Channel.written input.old }
     ensures input_write_faults { I.Channel.write_faults input.new ≡ I.Channel.write_faults input.old }
     ensures output_left { O.Channel.left output.new ≡ O.Channel.left output.old }
@@ -130,13 +120,6 @@ fn step_rendezvous<I: Source, O: Sink, N: Random>(
         (O.Channel.written output.old) (O.Channel.write_faults output.old))
         (streams (I.Channel.left input.new) (I.Channel.read_faults input.new)
         (O.Channel.written output.new) (O.Channel.write_faults output.new)) result }
-    ensures done { result ≡ status.Done → (N.faults random.new ≡ N.faults random.old)
-        × (I.Channel.read_faults input.new ≡ I.Channel.read_faults input.old)
-        × (O.Channel.write_faults output.new ≡ O.Channel.write_faults output.old) }
-    ensures read { result ≡ status.Read → Rises (I.Channel.read_faults input.old) (I.Channel.read_faults input.new) }
-    ensures write { result ≡ status.Write → Rises (O.Channel.write_faults output.old) (O.Channel.write_faults output.new) }
-    ensures no_words { result ≢ status.Words }
-    ensures random_failed { result ≡ status.Outside → Rises (N.faults random.old) (N.faults random.new) }
     ensures input_written { I.Channel.written input.new ≡ I.Channel.written input.old }
     ensures input_write_faults { I.Channel.write_faults input.new ≡ I.Channel.write_faults input.old }
     ensures output_left { O.Channel.left output.new ≡ O.Channel.left output.old }
@@ -172,13 +155,6 @@ fn step_handler<I: Source, O: Sink, N: Random>(
         (streams (I.Channel.left input.new) (I.Channel.read_faults input.new)
         (O.Channel.written output.new) (O.Channel.write_faults output.new)) result }
     ensures same_random { handler.new.random.ghost_name ≡ handler.old.random.ghost_name }
-    ensures done { result ≡ status.Done → (N.faults handler.new.random.now ≡ N.faults handler.old.random.now)
-        × (I.Channel.read_faults input.new ≡ I.Channel.read_faults input.old)
-        × (O.Channel.write_faults output.new ≡ O.Channel.write_faults output.old) }
-    ensures read { result ≡ status.Read → Rises (I.Channel.read_faults input.old) (I.Channel.read_faults input.new) }
-    ensures write { result ≡ status.Write → Rises (O.Channel.write_faults output.old) (O.Channel.write_faults output.new) }
-    ensures no_words { result ≢ status.Words }
-    ensures random_failed { result ≡ status.Outside → Rises (N.faults handler.old.random.now) (N.faults handler.new.random.now) }
     ensures input_written { I.Channel.written input.new ≡ I.Channel.written input.old }
     ensures input_write_faults { I.Channel.write_faults input.new ≡ I.Channel.write_faults input.old }
     ensures output_left { O.Channel.left output.new ≡ O.Channel.left output.old }

@@ -1,10 +1,11 @@
-ghost use Rattle.std.specs.Prelude.{◌≡◌, ◌≤◌, ◌≢◌, length, IfOk};
-ghost use Rattle.port_base.specs.Count.{Rises};
-ghost use Rattle.fdo_commands.specs.declared.status.Status.TheVariants as status;
+ghost use Rattle.std.specs.Prelude.{◌≡◌, ◌≤◌, ◌≢◌, ℕ, length, IfOk, MatchResult};
+ghost use Rattle.port_base.specs.Told.{grown};
 ghost use Rattle.fdo_commands.specs.declared.texts.Told.TheVariants as told;
 ghost use Rattle.fdo_commands.specs.Ending.{streams};
+ghost use Rattle.fdo_commands.specs.Outside.{keys};
 ghost use Rattle.fdo_commands.specs.Texts.{TextEnds};
-ghost use Rattle.fdo_commands.specs.Vouchers.{Checks, Shows, check_of, fault_place as place_of, refused_as, show_of, told_as};
+ghost use Rattle.fdo_commands.specs.Vouchers.{Checks, ChecksFront, Keeps, Shows, asks_until, fault_place as place_of, refused_as, show_of, told_as};
+ghost use Rattle.voucher_chain.specs.Chain.{checkings, first_break};
 ghost use Rattle.voucher_chain.specs.declared.fault.ChainFault.TheVariants.{NoMemory as OutOfMemory};
 ghost use Rattle.voucher_tool.specs.Check.{check_told};
 ghost use Rattle.voucher_tool.specs.Show.{show_text};
@@ -27,27 +28,7 @@ pub(crate) fn voucher_show<I: Source, O: Sink>(
     input: &mut I,
     output: &mut O,
 ) -> Status
-    ensures ends { TextEnds Shows
-        (streams (I.Channel.left input.old) (I.Channel.read_faults input.old)
-        (O.Channel.written output.old) (O.Channel.write_faults output.old))
-        (streams (I.Channel.left input.new) (I.Channel.read_faults input.new)
-        (O.Channel.written output.new) (O.Channel.write_faults output.new)) result }
-    ensures done { result ≡ status.Done → (I.Channel.read_faults input.new ≡ I.Channel.read_faults input.old)
-        × (O.Channel.write_faults output.new ≡ O.Channel.write_faults output.old) }
-    ensures read { result ≡ status.Read → Rises (I.Channel.read_faults input.old) (I.Channel.read_faults input.new) }
-    ensures write { result ≡ status.Write → Rises (O.Channel.write_faults output.old) (O.Channel.write_faults output.new) }
-    ensures no_words { result ≢ status.Words }
-    ensures no_outside { result ≢ status.Outside }
-    ensures input_written { I.Channel.written input.new ≡ I.Channel.written input.old }
-    ensures input_write_faults { I.Channel.write_faults input.new ≡ I.Channel.write_faults input.old }
-    ensures output_left { O.Channel.left output.new ≡ O.Channel.left output.old }
-    ensures output_read_faults { O.Channel.read_faults output.new ≡ O.Channel.read_faults output.old }
-{
-    show_input(alloc, input, output)
-}
-
-fn show_input<I: Source, O: Sink>(alloc: Global, input: &mut I, output: &mut O) -> Status
-    ensures ends { TextEnds Shows
+    ensures ends { TextEnds {S = Unit {0}} Shows Keeps tt tt
         (streams (I.Channel.left input.old) (I.Channel.read_faults input.old)
         (O.Channel.written output.old) (O.Channel.write_faults output.old))
         (streams (I.Channel.left input.new) (I.Channel.read_faults input.new)
@@ -70,47 +51,23 @@ pub(crate) fn voucher_check<I: Source, O: Sink, S: Suite>(
     output: &mut O,
     suite: &mut S,
 ) -> Status
-    ensures ends { TextEnds (Checks S.Verifier.verifies)
+    ensures ends { TextEnds (Checks S.Verifier.verifies) ChecksFront
+        (keys (S.Holder.held suite.old) (S.Holder.faults suite.old) (S.Holder.asked suite.old))
+        (keys (S.Holder.held suite.new) (S.Holder.faults suite.new) (S.Holder.asked suite.new))
         (streams (I.Channel.left input.old) (I.Channel.read_faults input.old)
         (O.Channel.written output.old) (O.Channel.write_faults output.old))
         (streams (I.Channel.left input.new) (I.Channel.read_faults input.new)
         (O.Channel.written output.new) (O.Channel.write_faults output.new)) result }
-    ensures done { result ≡ status.Done → (I.Channel.read_faults input.new ≡ I.Channel.read_faults input.old)
-        × (O.Channel.write_faults output.new ≡ O.Channel.write_faults output.old) }
-    ensures read { result ≡ status.Read → Rises (I.Channel.read_faults input.old) (I.Channel.read_faults input.new) }
-    ensures write { result ≡ status.Write → Rises (O.Channel.write_faults output.old) (O.Channel.write_faults output.new) }
-    ensures no_words { result ≢ status.Words }
-    ensures no_outside { result ≢ status.Outside }
-    ensures held { S.Holder.held suite.new ≡ S.Holder.held suite.old }
-    ensures suite_faults { S.Holder.faults suite.new ≡ S.Holder.faults suite.old }
-    ensures input_written { I.Channel.written input.new ≡ I.Channel.written input.old }
-    ensures input_write_faults { I.Channel.write_faults input.new ≡ I.Channel.write_faults input.old }
-    ensures output_left { O.Channel.left output.new ≡ O.Channel.left output.old }
-    ensures output_read_faults { O.Channel.read_faults output.new ≡ O.Channel.read_faults output.old }
-{
-    check_input(alloc, input, output, suite)
-}
-
-fn check_input<I: Source, O: Sink, S: Suite>(
-    alloc: Global,
-    input: &mut I,
-    output: &mut O,
-    suite: &mut S,
-) -> Status
-    ensures ends { TextEnds (Checks S.Verifier.verifies)
-        (streams (I.Channel.left input.old) (I.Channel.read_faults input.old)
-        (O.Channel.written output.old) (O.Channel.write_faults output.old))
-        (streams (I.Channel.left input.new) (I.Channel.read_faults input.new)
-        (O.Channel.written output.new) (O.Channel.write_faults output.new)) result }
-    ensures held { S.Holder.held suite.new ≡ S.Holder.held suite.old }
-    ensures suite_faults { S.Holder.faults suite.new ≡ S.Holder.faults suite.old }
     ensures input_written { I.Channel.written input.new ≡ I.Channel.written input.old }
     ensures input_write_faults { I.Channel.write_faults input.new ≡ I.Channel.write_faults input.old }
     ensures output_left { O.Channel.left output.new ≡ O.Channel.left output.old }
     ensures output_read_faults { O.Channel.read_faults output.new ≡ O.Channel.read_faults output.old }
 {
     match read_input(alloc, input) {
-        Ok(bytes) => end_found(output, check_bytes(alloc, suite, bytes.as_slice())),
+        Ok(bytes) => {
+            let found = check_bytes(alloc, suite, bytes.as_slice());
+            end_found(output, found)
+        }
         Err(fault) => end_unread(output, fault),
     }
 }
@@ -142,9 +99,13 @@ fn not_shown(fault: ChainFault) -> Result<Told, NoMemory>
 }
 
 fn check_bytes<S: Suite>(alloc: Global, suite: &mut S, bytes: &[u8]) -> Result<Told, NoMemory>
-    ensures told { IfOk result (λ what. what ≡ check_of S.Verifier.verifies bytes.now) }
-    ensures held { S.Holder.held suite.new ≡ S.Holder.held suite.old }
-    ensures suite_faults { S.Holder.faults suite.new ≡ S.Holder.faults suite.old }
+    ensures { MatchResult result
+        (λ what. Checks S.Verifier.verifies
+        (keys (S.Holder.held suite.old) (S.Holder.faults suite.old) (S.Holder.asked suite.old)) bytes.now what
+        (keys (S.Holder.held suite.new) (S.Holder.faults suite.new) (S.Holder.asked suite.new)))
+        (λ _. ChecksFront
+        (keys (S.Holder.held suite.old) (S.Holder.faults suite.old) (S.Holder.asked suite.old)) bytes.now
+        (keys (S.Holder.held suite.new) (S.Holder.faults suite.new) (S.Holder.asked suite.new))) }
 {
     match read_voucher(alloc, bytes) {
         Ok(voucher) => checked(alloc, suite, &voucher),
@@ -155,6 +116,9 @@ fn check_bytes<S: Suite>(alloc: Global, suite: &mut S, bytes: &[u8]) -> Result<T
 fn checked<S: Suite>(alloc: Global, suite: &mut S, voucher: &Voucher) -> Result<Told, NoMemory>
     requires { length voucher.now.entries ≤ 255 }
     ensures told { IfOk result (λ what. what ≡ told_as (check_told S.Verifier.verifies voucher.now)) }
+    ensures asked { MatchResult result
+        (λ _. S.Holder.asked suite.new ≡ grown (S.Holder.asked suite.old) (asks_until voucher.now (first_break S.Verifier.verifies voucher.now)))
+        (λ _. (n : ℕ) × (S.Holder.asked suite.new ≡ grown (S.Holder.asked suite.old) (checkings n voucher.now.header.key voucher.now.entries))) }
     ensures held { S.Holder.held suite.new ≡ S.Holder.held suite.old }
     ensures suite_faults { S.Holder.faults suite.new ≡ S.Holder.faults suite.old }
 {

@@ -18,7 +18,7 @@ loop-packet-preserved g c =
     c.packet-item.result c.loop-packet.packet-index (search rules) c.packet-item.is (state c.loop-packet.handler) (state c.answer_one.new.handler)
     (written c.loop-packet.output) (written c.answer_one.new.output) c.loop-packet.fault c.loop-packet.invariant.first c.in-Ok.one c.in-Ok.ensures.answer in
     record {
-      first = (first.0, first.1, first.2, rw c.either-fault.ensures first.3);
+      first = (first.0, first.1, first.2, rw c.sooner-fault.ensures first.3);
       ready = c.in-Ok.ensures.ready;
       objects = c.in-Ok.ensures.objects ∙ c.loop-packet.invariant.objects;
       faults = c.in-Ok.ensures.faults ∙ c.loop-packet.invariant.faults;

@@ -1,15 +1,16 @@
 use Rattle.std.proofs.Common.{refl, subst, sym}
-use Rattle.fdo_commands.specs.Stream.{TookAll}
 use Rattle.fdo_commands.specs.Outside.{signing}
-use Rattle.fdo_commands.proofs.ExtendMore.{entry_found, entry_unread}
+use Rattle.fdo_commands.specs.Stream.{TookAll}
+use Rattle.fdo_commands.specs.Vouchers.{Extends, ExtendsFront}
+use Rattle.fdo_commands.proofs.TextsMore.{found_ends, unread_ends}
 use Rattle.fdo_commands.proofs.extending.extend_input.Goals as goal
 
 pub returns-in-Ok-clause-ends : goal.returns-in-Ok-clause-ends
 returns-in-Ok-clause-ends g c =
     let left = g.I.Channel.left in
     let took = subst (TookAll (left c.args.input.now) (left c.read_input.new.input)) (sym c.as_slice.ensures.value) c.in-Ok.ensures.bytes in
-    entry_found (signing g.S.Verifier.verifies g.S.Signer.algorithm g.S.Signer.loads) _ _ _ _ _ _ c.as_slice.result.now took c.in-Ok.ensures.faults c.extend_bytes-found.result c.extend_bytes-found.ensures.told c.extend_bytes-found.ensures.memory c.end_found.result c.end_found.ensures.found
+    found_ends (Extends (signing g.S.Verifier.verifies g.S.Signer.algorithm g.S.Signer.loads) c.args.next.now) ExtendsFront _ _ _ _ c.as_slice.result.now took c.in-Ok.ensures.faults c.extend_bytes-found.result c.extend_bytes-found.ensures c.end_found.result c.end_found.ensures.found
 
 pub returns-in-Err-clause-ends : goal.returns-in-Err-clause-ends
 returns-in-Err-clause-ends g c =
-    entry_unread (signing g.S.Verifier.verifies g.S.Signer.algorithm g.S.Signer.loads) _ _ _ _ _ _ c.in-Err.fault c.in-Err.ensures.bytes c.in-Err.ensures.faults refl c.end_unread.result c.end_unread.ensures.fails
+    unread_ends (Extends (signing g.S.Verifier.verifies g.S.Signer.algorithm g.S.Signer.loads) c.args.next.now) ExtendsFront _ _ _ _ refl c.in-Err.fault c.in-Err.ensures.bytes c.in-Err.ensures.faults c.end_unread.result c.end_unread.ensures.fails

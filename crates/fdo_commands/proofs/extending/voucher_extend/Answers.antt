@@ -1,20 +1,14 @@
-use Rattle.fdo_commands.proofs.ExtendMore.{extend_done, extend_held, extend_outside, extend_read, extend_words, extend_write}
+use Rattle.std.proofs.Common.{ℕ, refl}
+use Rattle.std.specs.declared.alloc.Global.{Global}
+use Rattle.std.specs.declared.vec.Vec.{Vec}
+use Rattle.fdo_commands.specs.Outside.{signing}
+use Rattle.fdo_commands.proofs.ExtendMore.{after_load, unloaded_ends}
 use Rattle.fdo_commands.proofs.extending.voucher_extend.Goals as goal
 
-pub returns-clause-words : goal.returns-clause-words
-returns-clause-words g c = extend_words _ _ _ _ _ _ _ c.load_and_extend.result c.load_and_extend.ensures.ends
+pub returns-in-Ok-clause-ends : goal.returns-in-Ok-clause-ends
+returns-in-Ok-clause-ends g c =
+    after_load (signing g.S.Verifier.verifies g.S.Signer.algorithm g.S.Signer.loads) _ _ _ _ _ _ _ c.in-Ok.ensures.known c.in-Ok._key.items c.in-Ok.ensures.held c.in-Ok.ensures.faults c.in-Ok.ensures.asked c.extend_input.result c.extend_input.ensures.ends
 
-pub returns-clause-done : goal.returns-clause-done
-returns-clause-done g c = extend_done _ _ _ _ _ _ _ c.load_and_extend.result c.load_and_extend.ensures.ends
-
-pub returns-clause-read : goal.returns-clause-read
-returns-clause-read g c = extend_read _ _ _ _ _ _ _ c.load_and_extend.result c.load_and_extend.ensures.ends
-
-pub returns-clause-write : goal.returns-clause-write
-returns-clause-write g c = extend_write _ _ _ _ _ _ _ c.load_and_extend.result c.load_and_extend.ensures.ends
-
-pub returns-clause-outside_failed : goal.returns-clause-outside_failed
-returns-clause-outside_failed g c = extend_outside _ _ _ _ _ _ _ c.load_and_extend.result c.load_and_extend.ensures.ends
-
-pub returns-clause-held : goal.returns-clause-held
-returns-clause-held g c = extend_held _ _ _ _ _ _ _ c.load_and_extend.result c.load_and_extend.ensures.ends
+pub returns-in-Err-clause-ends : goal.returns-in-Err-clause-ends
+returns-in-Err-clause-ends g c =
+    unloaded_ends (Vec ℕ Global) (signing g.S.Verifier.verifies g.S.Signer.algorithm g.S.Signer.loads) _ _ _ _ _ _ _ _ _ _ _ _ _ _ _ _ c.in-Err.fault c.in-Err.ensures.known c.in-Err.ensures.held c.in-Err.ensures.faults c.in-Err.ensures.asked refl refl c.end_unloaded.result c.end_unloaded.ensures.unloaded

@@ -1,17 +1,16 @@
-use Rattle.fdo_commands.proofs.TextsMore.{text_done, text_no_outside, text_no_words, text_read, text_write}
+use Rattle.std.proofs.Common.{refl, subst, sym}
+use Rattle.fdo_commands.specs.Stream.{TookAll}
+use Rattle.fdo_commands.specs.Vouchers.{Keeps, Shows}
+use Rattle.fdo_commands.proofs.TextsMore.{found_ends, unread_ends}
+use Rattle.fdo_commands.proofs.ChecksMore.{found_shown}
 use Rattle.fdo_commands.proofs.vouchers.voucher_show.Goals as goal
 
-pub returns-clause-done : goal.returns-clause-done
-returns-clause-done g c = text_done _ _ _ c.show_input.result c.show_input.ensures.ends
+pub returns-in-Ok-clause-ends : goal.returns-in-Ok-clause-ends
+returns-in-Ok-clause-ends g c =
+    let left = g.I.Channel.left in
+    let took = subst (TookAll (left c.args.input.now) (left c.read_input.new.input)) (sym c.as_slice.ensures.value) c.in-Ok.ensures.bytes in
+    found_ends {S = Unit {0}} Shows Keeps tt tt _ _ c.as_slice.result.now took c.in-Ok.ensures.faults c.show_bytes.result (found_shown _ c.show_bytes.result c.show_bytes.ensures) c.end_found.result c.end_found.ensures.found
 
-pub returns-clause-read : goal.returns-clause-read
-returns-clause-read g c = text_read _ _ _ c.show_input.result c.show_input.ensures.ends
-
-pub returns-clause-write : goal.returns-clause-write
-returns-clause-write g c = text_write _ _ _ c.show_input.result c.show_input.ensures.ends
-
-pub returns-clause-no_words : goal.returns-clause-no_words
-returns-clause-no_words g c = text_no_words _ _ _ c.show_input.result c.show_input.ensures.ends
-
-pub returns-clause-no_outside : goal.returns-clause-no_outside
-returns-clause-no_outside g c = text_no_outside _ _ _ c.show_input.result c.show_input.ensures.ends
+pub returns-in-Err-clause-ends : goal.returns-in-Err-clause-ends
+returns-in-Err-clause-ends g c =
+    unread_ends {S = Unit {0}} Shows Keeps tt tt _ _ refl c.in-Err.fault c.in-Err.ensures.bytes c.in-Err.ensures.faults c.end_unread.result c.end_unread.ensures.fails
