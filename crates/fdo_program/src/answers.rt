@@ -22,9 +22,9 @@ pub fn answer<I: Source, O: Sink, S: Suite, N: Random>(
 ) -> Status
     ensures ran { RanProgram (signing S.Verifier.verifies S.Signer.algorithm S.Signer.loads) words.now
         (outside (I.Channel.left input.old) (I.Channel.read_faults input.old) (O.Channel.written output.old) (O.Channel.write_faults output.old)
-        (S.Holder.held suite.old) (S.Holder.faults suite.old) (N.draws random.old) (N.faults random.old))
+        (S.Holder.held suite.old) (S.Holder.faults suite.old) (S.Holder.asked suite.old) (N.draws random.old) (N.faults random.old))
         (outside (I.Channel.left input.new) (I.Channel.read_faults input.new) (O.Channel.written output.new) (O.Channel.write_faults output.new)
-        (S.Holder.held suite.new) (S.Holder.faults suite.new) (N.draws random.new) (N.faults random.new)) result }
+        (S.Holder.held suite.new) (S.Holder.faults suite.new) (S.Holder.asked suite.new) (N.draws random.new) (N.faults random.new)) result }
     ensures done { result ≡ status.Done → (N.faults random.new ≡ N.faults random.old)
         × (S.Holder.faults suite.new ≡ S.Holder.faults suite.old)
         × (I.Channel.read_faults input.new ≡ I.Channel.read_faults input.old)
