@@ -36,18 +36,6 @@ fn hash_at(item: &Item) -> Result<Hash, KeyFault>
     hash_by(kind, content.as_list())
 }
 
-/// The hash of a kind with these bytes, where their number is the kind's. The kind comes first. It takes no memory.
-pub fn hash_of_parts(kind: i64, bytes: &[u8]) -> Result<Hash, KeyFault>
-    // The hash, or which fault it is.
-    ensures exact { result ≡ hash_by_kind kind bytes.now }
-    // It takes no memory.
-    ensures memory { result ≢ Err OutOfMemory }
-    // What is made is consistent.
-    ensures is { IfOk result IsConsistent }
-{
-    hash_by(kind, bytes)
-}
-
 #[tactic(auto, unfolding(crate::specs::Hash::hash_by_kind))]
 fn hash_by(kind: i64, bytes: &[u8]) -> Result<Hash, KeyFault>
     ensures { result ≡ hash_by_kind kind bytes.now }
