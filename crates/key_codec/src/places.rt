@@ -4,7 +4,7 @@ ghost use Rattle.std.specs.Prelude.{◌≡◌, option_map};
 ghost use Rattle.cbor_core.specs.declared.item.Item.{out-Item};
 ghost use Rattle.cbor_core.specs.Spots.{spot_item, spot_parts};
 ghost use Rattle.cbor_core.specs.Numbers.{integer_in};
-ghost use Rattle.key_codec.specs.Places.{is_kind as is_known_kind, sig_info_place, hash_place, chain_place, cose_place, form_place, body_place as place_of_body, encoded_place, is_type as is_known_type, key_place, has_label as has_a_label, has_labels as has_all_labels, is_whole as is_whole_map, fits_label as fits_a_label, fits_number as fits_a_number, first_unfit, is_one_curve};
+ghost use Rattle.key_codec.specs.Places.{is_kind as is_known_kind, sig_info_place, hash_place, chain_place, cose_place, form_place, body_place as place_of_body, encoded_place, is_type as is_known_type, key_place, has_label as has_a_label, is_whole as is_whole_map, fits_label as fits_a_label, fits_number as fits_a_number, first_unfit, is_one_curve};
 ghost use Rattle.cbor_core.specs.Shapes.{two_spots, three_spots};
 
 use crate::encoding::Form;
@@ -154,29 +154,13 @@ fn find_unfit(body: &Part) -> usize
 fn is_whole(map: &Part) -> bool
     ensures { result ≡ is_whole_map map.now.spot }
 {
-    map.is_map() && has_labels(map)
-}
-
-fn has_labels(map: &Part) -> bool
-    ensures { result ≡ has_all_labels (spot_parts map.now.spot) }
-{
     has_label(map, 1) && has_label(map, -1) && has_label(map, -2) && has_label(map, -3)
 }
 
 fn has_label(map: &Part, label: i64) -> bool
-    ensures { result ≡ has_a_label label (spot_parts map.now.spot) }
+    ensures { result ≡ has_a_label label map.now.spot }
 {
-    let mut next = map.inside();
-    while let Some(key) = next {
-        let Some(value) = key.after() else {
-            return false;
-        };
-        if key.integer() == Some(label) {
-            return true;
-        }
-        next = value.after();
-    }
-    false
+    map.labelled(label).is_some()
 }
 
 fn fits_label(key: &Part, value: &Part) -> bool
