@@ -2,6 +2,7 @@
 #![tactic(auto)]
 
 pub mod chain;
+mod cose;
 pub mod encoding;
 pub mod fault;
 pub mod hash;
