@@ -6,7 +6,6 @@ ghost use Rattle.voucher_chain.specs.Fault.{Reads};
 ghost use Rattle.voucher_chain.specs.Header.{is_version as is_the_version, guid_in, header_of, header_seen, header_place, header_at, IsHeader, item_of_header, item_of_maybe_hash, header_with, maybe_hash_in};
 ghost use Rattle.key_codec.specs.Fault.{ok_of};
 ghost use Rattle.key_codec.specs.Key.{key_in};
-ghost use Rattle.key_codec.specs.Hash.{hash_in};
 
 use crate::fault::{ChainFault, shape_fault};
 use crate::rv_info::{RvInfo, find_rv_fault, read_rv, rv_item};
@@ -15,7 +14,7 @@ use cbor_core::{Blob, Item, Items, NoMemory, Part, Text, exactly, write_det};
 use hash_hmac::Hash;
 use key_codec::{
     KeyFault, PublicKey, find_hash_fault, find_key_fault, hash_item, key_bytes, key_item,
-    read_hash, read_key,
+    read_hash_part, read_key,
 };
 use std::alloc::Global;
 
@@ -168,17 +167,6 @@ pub(crate) fn read_key_part(alloc: Global, part: &Part) -> Result<Option<PublicK
     match read_key(alloc, &item) {
         Ok(key) => Ok(Some(key)),
         Err(KeyFault::NoMemory) => Err(NoMemory),
-        Err(_) => Ok(None),
-    }
-}
-
-/// The hash that a part is.
-pub(crate) fn read_hash_part(alloc: Global, part: &Part) -> Result<Option<Hash>, NoMemory>
-    ensures { IfOk result (λ hash. hash ≡ ok_of (hash_in (spot_item part.now.spot))) }
-{
-    let item = part.item(alloc)?;
-    match read_hash(&item) {
-        Ok(hash) => Ok(Some(hash)),
         Err(_) => Ok(None),
     }
 }
