@@ -1,8 +1,8 @@
-ghost use Rattle.std.specs.Prelude.{◌≡◌, Ok, IfOk};
+ghost use Rattle.std.specs.Prelude.{◌≡◌, Some, Ok, IfOk};
 ghost use Rattle.cbor_core.specs.Deterministic.{det};
 ghost use Rattle.cbor_core.specs.Spots.{spot_item};
 ghost use Rattle.cose_envelopes.specs.declared.mac0.Mac0.{Mac0};
-ghost use Rattle.cose_envelopes.specs.Envelope.{mac0_in, mac0_content, mac0_of, IsMac0, item_of_mac0, IsWholeMac};
+ghost use Rattle.cose_envelopes.specs.Envelope.{algorithm_in, mac0_in, mac0_content, mac0_of, IsMac0, item_of_mac0, IsWholeMac};
 ghost use Rattle.cose_envelopes.specs.Fault.{Reads};
 ghost use Rattle.cose_envelopes.specs.Opening.{mac0_at};
 ghost use Rattle.cose_envelopes.specs.Places.{mac0_place};
@@ -32,6 +32,8 @@ pub fn read_mac0(alloc: Global, bytes: &[u8]) -> Result<Mac0, CoseFault>
     ensures only { (value : Mac0) → IsMac0 bytes.now value → Reads (Ok value) result }
     // Where the first fault stands.
     ensures exact { Reads (mac0_at bytes.now) result }
+    // The protected bytes name the algorithm.
+    ensures names { IfOk result (λ value. algorithm_in value.protected ≡ Some value.alg) }
 {
     read_whole(alloc, bytes)
 }
