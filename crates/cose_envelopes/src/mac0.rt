@@ -8,7 +8,7 @@ ghost use Rattle.cose_envelopes.specs.Opening.{mac0_at};
 ghost use Rattle.cose_envelopes.specs.Places.{mac0_place};
 
 use crate::fault::{CoseFault, shape_fault};
-use crate::parts::{find_four_fault, read_pairs, read_protected};
+use crate::parts::{find_four_fault, is_unprotected, read_protected};
 use cbor_core::{Blob, Item, Items, NoMemory, Pairs, Part, write_det};
 use sqlite_items::Boxed;
 use std::alloc::Global;
@@ -87,12 +87,14 @@ fn read_parts(
 ) -> Result<Option<Mac0>, NoMemory>
     ensures { IfOk result (λ value. value ≡ mac0_of (spot_item protected.now.spot, spot_item unprotected.now.spot, spot_item payload.now.spot, spot_item tag.now.spot)) }
 {
+    if !is_unprotected(unprotected) {
+        return Ok(None);
+    }
     let header = read_protected(alloc, protected)?;
-    let pairs = read_pairs(alloc, unprotected)?;
     let payload = payload.bytes(alloc)?;
     let tag = tag.bytes(alloc)?;
-    match (header, pairs, payload, tag) {
-        (Some((protected, alg)), Some(_), Some(payload), Some(tag)) => Ok(Some(Mac0 {
+    match (header, payload, tag) {
+        (Some((protected, alg)), Some(payload), Some(tag)) => Ok(Some(Mac0 {
             protected,
             alg,
             payload,
