@@ -10,10 +10,10 @@ use Rattle.hash_hmac.specs.Value.{hash_value}
 use Rattle.key_codec.specs.declared.key.PublicKey.{PublicKey}
 use Rattle.key_codec.specs.Key.{item_of_key}
 use Rattle.cose_envelopes.specs.declared.sign1.Sign1.{Sign1}
+use Rattle.cose_envelopes.specs.Asking.{verifying}
 use Rattle.cose_envelopes.specs.Text.{sign1_structure}
 use Rattle.port_base.specs.Told.{grown}
 use Rattle.suite_port.specs.Asked.{Ask}
-use Rattle.suite_port.specs.Asked.Ask.{Verified}
 use Rattle.voucher_chain.specs.declared.entry.Entry.{Entry}
 use Rattle.voucher_chain.specs.declared.header.Header.{Header}
 use Rattle.voucher_chain.specs.declared.voucher.Voucher.{Voucher}
@@ -116,11 +116,8 @@ checked (Some f) = Err f
 
 -- ---- what is asked of the suite
 
--- whether the signature of an entry is right under a key
-abbrev pub checking : PublicKey → Sign1 → Ask
-checking key sign = Verified (det (item_of_key key)) sign.alg (sign1_structure sign.protected sign.payload) sign.sig
-
--- that, once, where it is or the signature alone is wrong, and else nothing; a refusal names the entry
+-- whether the signature of an entry is right under a key, once, where it is or the signature alone is wrong, and else
+-- nothing; a refusal names the entry
 abbrev pub AsksToCheck : Option (List Ask) → Option (List Ask) → Ask → ℕ → Result (Unit {0}) ChainFault → Type 0
 AsksToCheck before after ask index (Ok value) = after ≡ grown before (ask ∷ [])
 AsksToCheck before after ask index (Err (fault.BadSignature number)) = (number ≡ index) × (after ≡ grown before (ask ∷ []))
@@ -134,7 +131,7 @@ AsksToCheck before after ask index (Err f) = ⊥
 abbrev pub checkings : ℕ → PublicKey → List Entry → List Ask
 checkings zero key es = []
 checkings (suc n) key [] = []
-checkings (suc n) key (e ∷ es) = checking key e.sign ∷ checkings n e.key es
+checkings (suc n) key (e ∷ es) = verifying (det (item_of_key key)) e.sign ∷ checkings n e.key es
 
 -- how many entries have had their signatures asked for where a chain is refused so
 abbrev pub asked_before : ChainFault → ℕ

@@ -1,9 +1,12 @@
 ghost use Rattle.std.specs.Prelude.{◌≡◌, ◌≤◌, ◌++◌, ◌⊎◌, ℕ, List, length, flat_map, Option, Ok, Err, IfOk, IfErr};
+ghost use Rattle.cbor_core.specs.Deterministic.{det};
 ghost use Rattle.key_codec.specs.declared.key.PublicKey.{PublicKey};
+ghost use Rattle.key_codec.specs.Key.{item_of_key};
+ghost use Rattle.cose_envelopes.specs.Asking.{verifying};
 ghost use Rattle.voucher_chain.specs.declared.fault.ChainFault.{ChainFault};
 ghost use Rattle.voucher_chain.specs.declared.fault.ChainFault.TheVariants.{BadCertHash as WrongCertificates, NoMemory as OutOfMemory};
 ghost use Rattle.voucher_chain.specs.Broken.{BreaksEntry, IsFirstBreak};
-ghost use Rattle.voucher_chain.specs.Chain.{AsksToCheck, AsksToCheckAll, Chain, Follows, checked, checking, certificates_break, entry_break, first_break, front, hash_break, last_key, links_break, signature_break, signature_told};
+ghost use Rattle.voucher_chain.specs.Chain.{AsksToCheck, AsksToCheckAll, Chain, Follows, checked, certificates_break, entry_break, first_break, front, hash_break, last_key, links_break, signature_break, signature_told};
 ghost use Rattle.voucher_chain.specs.Fault.{Answers, or_else};
 
 use crate::entry::Entry;
@@ -53,7 +56,7 @@ pub fn check_entry<S: Suite>(
     ensures held { S.Holder.held suite.new ≡ S.Holder.held suite.old }
     ensures faults { S.Holder.faults suite.new ≡ S.Holder.faults suite.old }
     // Where both hashes hold and the suite has the algorithm, it is asked once; a refusal has the number given.
-    ensures asked { AsksToCheck (S.Holder.asked suite.old) (S.Holder.asked suite.new) (checking signer.now entry.now.sign) index result }
+    ensures asked { AsksToCheck (S.Holder.asked suite.old) (S.Holder.asked suite.new) (verifying (det (item_of_key signer.now)) entry.now.sign) index result }
 {
     check_link(
         alloc,
@@ -81,7 +84,7 @@ fn check_link<S: Suite>(
     ensures answer { Answers (checked (entry_break S.Verifier.verifies header.now index (prev_first.now ++ prev_second.now) signer.now entry.now)) result }
     ensures held { S.Holder.held suite.new ≡ S.Holder.held suite.old }
     ensures faults { S.Holder.faults suite.new ≡ S.Holder.faults suite.old }
-    ensures asked { AsksToCheck (S.Holder.asked suite.old) (S.Holder.asked suite.new) (checking signer.now entry.now.sign) index result }
+    ensures asked { AsksToCheck (S.Holder.asked suite.old) (S.Holder.asked suite.new) (verifying (det (item_of_key signer.now)) entry.now.sign) index result }
 {
     let unknown = ChainFault::NoAlgorithm(index);
     check_hash(
@@ -143,7 +146,7 @@ fn check_signature<S: Suite>(
     ensures answer { Answers (checked (signature_break index (signature_told S.Verifier.verifies signer.now sign.now))) result }
     ensures held { S.Holder.held suite.new ≡ S.Holder.held suite.old }
     ensures faults { S.Holder.faults suite.new ≡ S.Holder.faults suite.old }
-    ensures asked { AsksToCheck (S.Holder.asked suite.old) (S.Holder.asked suite.new) (checking signer.now sign.now) index result }
+    ensures asked { AsksToCheck (S.Holder.asked suite.old) (S.Holder.asked suite.new) (verifying (det (item_of_key signer.now)) sign.now) index result }
 {
     let key = key_bytes(alloc, signer)?;
     match verify(alloc, suite, key.as_list(), sign) {
