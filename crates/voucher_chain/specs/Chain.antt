@@ -67,6 +67,10 @@ abbrev pub last_key : PublicKey → List Entry → PublicKey
 last_key key [] = key
 last_key key (e ∷ es) = last_key e.key es
 
+-- the bytes by which a suite knows it
+abbrev pub owner_bytes : Voucher → List ℕ
+owner_bytes v = det (item_of_key (last_key v.header.key v.entries))
+
 -- what stands before the next entry
 abbrev pub last_bytes : List ℕ → List Entry → List ℕ
 last_bytes before [] = before
