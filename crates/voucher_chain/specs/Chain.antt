@@ -1,6 +1,6 @@
 -- The chain of a voucher's owners (FIDO Device Onboard 1.1, section 3.4): each entry is signed by the owner before it,
 -- holds the hash of the bytes before it and of the header's information, and names the next owner's key.
-use Rattle.std.specs.Prelude.{◌≡◌, ℕ, zero, suc, ◌+◌, ℤ, length, List, [], ◌∷◌, ◌++◌, flat_map, Bool, true, false, ◌&&◌, ◌==◌, if◌then◌else◌, Option, Some, None, Result, Ok, Err}
+use Rattle.std.specs.Prelude.{◌≡◌, ℕ, zero, suc, ◌+◌, ℤ, length, List, [], ◌∷◌, ◌++◌, flat_map, Bool, true, false, ◌&&◌, ◌==◌, Option, Some, None, Result, Ok, Err}
 use Rattle.std.specs.Ordering.{int_eq}
 use Rattle.std.specs.Str.{bytes_eq}
 use Rattle.cbor_core.specs.Deterministic.{det}
@@ -81,13 +81,22 @@ last_bytes before (e ∷ es) = last_bytes e.raw es
 abbrev pub same_hash : Hash → Hash → Bool
 same_hash a b = int_eq a.kind b.kind && (a.len == b.len) && bytes_eq a.bytes b.bytes
 
+-- whether a hash is that of a text, by its own kind; none where that is none of a hash's
+abbrev pub told_of : Hash → Option (List ℕ) → Option Bool
+told_of hash None = None
+told_of hash (Some bytes) = Some (same_hash (hash_value hash.kind bytes) hash)
+
+abbrev pub hash_told : Hash → List ℕ → Option Bool
+hash_told hash text = told_of hash (hashed hash.kind text)
+
 -- a hash of a kind that is none of a hash's, or one of another text
-abbrev pub told_break : ChainFault → ChainFault → Hash → Option (List ℕ) → Option ChainFault
-told_break unknown wrong hash None = Some unknown
-told_break unknown wrong hash (Some bytes) = if same_hash (hash_value hash.kind bytes) hash then None else Some wrong
+abbrev pub told_break : ChainFault → ChainFault → Option Bool → Option ChainFault
+told_break unknown wrong None = Some unknown
+told_break unknown wrong (Some true) = None
+told_break unknown wrong (Some false) = Some wrong
 
 abbrev pub hash_break : ChainFault → ChainFault → Hash → List ℕ → Option ChainFault
-hash_break unknown wrong hash text = told_break unknown wrong hash (hashed hash.kind text)
+hash_break unknown wrong hash text = told_break unknown wrong (hash_told hash text)
 
 abbrev pub signature_break : ℕ → Option Bool → Option ChainFault
 signature_break index None = Some (fault.NoAlgorithm index)

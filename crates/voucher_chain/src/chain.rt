@@ -105,7 +105,7 @@ fn check_link<S: Suite>(
     check_signature(alloc, suite, index, signer, &entry.sign)
 }
 
-/// Whether a hash is that of two texts in a row, by its own kind.
+/// Refuses a hash that is not that of two texts in a row.
 fn check_hash(
     hash: &Hash,
     first: &[u8],
@@ -116,19 +116,28 @@ fn check_hash(
     ensures answer { result ≡ checked (hash_break unknown wrong hash.now (first.now ++ second.now)) }
     ensures named { IfErr result (λ f. (f ≡ unknown) ⊎ (f ≡ wrong)) }
 {
-    match hash_of(hash.kind, first, second) {
-        Some(told) => {
-            if same(&told, hash) {
-                Ok(())
-            } else {
-                Err(wrong)
-            }
-        }
+    match is_hash_of(hash, first, second) {
+        Some(true) => Ok(()),
+        Some(false) => Err(wrong),
         None => Err(unknown),
     }
 }
 
-ghost use Rattle.voucher_chain.specs.Chain.{same_hash};
+ghost use Rattle.std.specs.Prelude.{◌↔◌, Some, true};
+ghost use Rattle.voucher_chain.specs.Chain.{hash_told, same_hash};
+ghost use Rattle.voucher_chain.specs.Match.{IsHashOf};
+
+/// Whether a hash is that of two texts in a row, by its own kind. None where that is none of a hash's.
+#[tactic(auto, using(crate::proofs::ChainLaws::told_holds, crate::proofs::ChainLaws::holds_told))]
+pub(crate) fn is_hash_of(hash: &Hash, first: &[u8], second: &[u8]) -> Option<bool>
+    ensures told { result ≡ hash_told hash.now (first.now ++ second.now) }
+    ensures is { (result ≡ Some true) ↔ IsHashOf hash.now (first.now ++ second.now) }
+{
+    match hash_of(hash.kind, first, second) {
+        Some(told) => Some(same(&told, hash)),
+        None => None,
+    }
+}
 
 fn same(a: &Hash, b: &Hash) -> bool
     ensures { result ≡ same_hash a.now b.now }
