@@ -2,6 +2,7 @@ ghost use Rattle.std.specs.Prelude.{◌≡◌, ◌↔◌, IfOk, IsTrue};
 ghost use Rattle.voucher_chain.specs.Match.{IsMatch, IsMacOf};
 
 use crate::chain::is_hash_of;
+use crate::header::Guid;
 use crate::voucher::Voucher;
 use cbor_core::{Blob, NoMemory, Text};
 use hash_hmac::{HMac, Hash, hmac_of};
@@ -10,7 +11,7 @@ use std::fmt;
 /// What a device keeps of its voucher (FIDO Device Onboard 1.1, section 3.4.1, "DeviceCredential").
 #[derive(Drop)]
 pub struct Credential {
-    pub guid: [u8; 16],
+    pub guid: Guid,
     /// The bytes of the rendezvous information.
     pub rv: Blob,
     /// DeviceInfo.

@@ -18,12 +18,15 @@ use key_codec::{
 };
 use std::alloc::Global;
 
+/// A device's identifier in a voucher and a credential: 16 bytes (FIDO Device Onboard 1.1, section 3.3.1).
+pub type Guid = [u8; 16];
+
 /// The header of an ownership voucher (FIDO Device Onboard 1.1, section 3.4.2, "OVHeader").
 #[derive(Debug, Drop)]
 pub struct Header {
     /// Its bytes as received, which spell the other fields.
     pub raw: Blob,
-    pub guid: [u8; 16],
+    pub guid: Guid,
     pub rv: RvInfo,
     /// DeviceInfo: what the manufacturer says of the device.
     pub info: Text,
@@ -141,7 +144,7 @@ fn read_parts(
 }
 
 /// A GUID: a byte string of 16 bytes.
-fn read_guid(alloc: Global, part: &Part) -> Result<Option<[u8; 16]>, NoMemory>
+fn read_guid(alloc: Global, part: &Part) -> Result<Option<Guid>, NoMemory>
     ensures { IfOk result (λ guid. guid ≡ guid_in (spot_item part.now.spot)) }
 {
     match part.bytes(alloc)? {
@@ -229,19 +232,19 @@ ghost use Rattle.voucher_chain.specs.RvInfo.{AreNumbers};
 /// The item that a header with these parts is written as.
 pub fn header_item(
     alloc: Global,
-    guid: &[u8; 16],
+    guid: Guid,
     rv: &RvInfo,
     info: &Text,
     key: &PublicKey,
     chain_hash: &Option<Hash>,
 ) -> Result<Item, NoMemory>
-    ensures item { IfOk result (λ item. item ≡ item_of_header guid.now rv.now info.now key.now chain_hash.now) }
+    ensures item { IfOk result (λ item. item ≡ item_of_header guid rv.now info.now key.now chain_hash.now) }
     // The numbers of the variables have 64 bits.
     ensures numbers { IfOk result (λ item. AllByRecursion AreNumbers rv.now) }
 {
     let mut parts = Items::new(alloc);
     parts.push(Item::Uint(101))?;
-    parts.push(Item::Bytes(Blob::from_slice(alloc, guid)?))?;
+    parts.push(Item::Bytes(Blob::from_slice(alloc, &guid)?))?;
     parts.push(rv_item(alloc, rv)?)?;
     parts.push(Item::Text(info.copy()?))?;
     parts.push(key_item(alloc, key)?)?;
@@ -268,11 +271,11 @@ ghost use Rattle.voucher_chain.specs.Header.{IsMaybeHash, HasRoom};
 pub fn replacement(
     alloc: Global,
     header: &Header,
-    guid: &[u8; 16],
+    guid: Guid,
     rv: &RvInfo,
     key: &PublicKey,
 ) -> Result<Header, NoMemory>
-    ensures new { IfOk result (λ new. new ≡ header_with guid.now rv.now header.now.info key.now header.now.chain_hash) }
+    ensures new { IfOk result (λ new. new ≡ header_with guid rv.now header.now.info key.now header.now.chain_hash) }
     // Where the key and the hash are of the form, it is read from its bytes as it stands.
     ensures back { IsKey key.now → IsMaybeHash header.now.chain_hash → IfOk result (λ new. IsHeader new.raw new) }
 {
@@ -283,7 +286,7 @@ pub fn replacement(
     is_text(&header.info);
     Ok(Header {
         raw,
-        guid: *guid,
+        guid,
         rv: rv.copy(alloc)?,
         info: header.info.copy()?,
         key: key.copy(alloc)?,
