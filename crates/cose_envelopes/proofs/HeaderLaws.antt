@@ -8,7 +8,9 @@ use Rattle.cbor_core.specs.Head.{head}
 use Rattle.cbor_core.specs.Deterministic.{det}
 use Rattle.cbor_core.specs.Norm.{norm, IsFit}
 use Rattle.cbor_core.specs.Numbers.{integer_in, item_of_integer, IsI64}
-use Rattle.cbor_core.specs.Shapes.{labelled_in}
+use Rattle.cbor_core.specs.Shapes.{is_map, labelled_in, pairs_layer}
+use Rattle.cbor_core.specs.declared.item.Item.TheOpen.{Item-F}
+use Rattle.std.specs.Prelude.{is_some}
 use Rattle.cbor_core.proofs.NormLaws.{norm_one, norm_uint, norm_integer, integer_back, fit_uint, fit_integer, fit_map, fit_said, head_short}
 use Rattle.cbor_core.proofs.WholeLaws.{spelled_whole}
 use Rattle.cbor_core.proofs.Dets.{det_uint, det_nint, det_bytes, det_text, det_array, det_map}
@@ -98,3 +100,15 @@ written_header alg x (Err f) is e = tt
 pub names_said : (alg : ℤ) (r : Result (List ℕ) NoMemory) → IsI64 alg → IfOk r (λ bytes. bytes ≡ protected_of alg) → IfOk r (λ bytes. algorithm_in bytes ≡ Some alg)
 names_said alg (Ok bytes) h e = ap algorithm_in e ∙ names_back alg h
 names_said alg (Err f) h e = tt
+
+-- ---- an unprotected header: a map is what has pairs
+
+pub map_has_pairs : (f : Item-F Item) → is_map f ≡ is_some (pairs_layer f)
+map_has_pairs (Item-F.Uint n) = refl
+map_has_pairs (Item-F.Nint n) = refl
+map_has_pairs (Item-F.Bytes b) = refl
+map_has_pairs (Item-F.Text t) = refl
+map_has_pairs (Item-F.Array xs) = refl
+map_has_pairs (Item-F.Map ps) = refl
+map_has_pairs (Item-F.Tag t x) = refl
+map_has_pairs (Item-F.Simple n) = refl

@@ -1,4 +1,5 @@
 pub mod HeaderLaws
+pub mod Names
 pub mod OpenLaws
 pub mod ReadLaws
 pub mod SealLaws

@@ -38,16 +38,10 @@ AsksToVerify before after ask (Err f) = after ≡ before
 abbrev pub sealing : ℤ → List ℕ → List ℕ → List ℕ → Ask
 sealing alg key iv plain = Sealed alg key iv (encrypt0_structure (protected_of alg)) plain
 
--- that, once; where memory runs out, that or nothing, and where it is refused, nothing
-abbrev pub AsksToSeal : {A : Type 0} → Option (List Ask) → Option (List Ask) → Ask → Result A CoseFault → Type 0
+-- that, once; where memory runs out, which is the only refusal of an algorithm that the suite has, that or nothing
+abbrev pub AsksToSeal : {A E : Type 0} → Option (List Ask) → Option (List Ask) → Ask → Result A E → Type 0
 AsksToSeal before after ask (Ok value) = after ≡ grown before (ask ∷ [])
-AsksToSeal before after ask (Err fault.NoMemory) = (after ≡ before) ⊎ (after ≡ grown before (ask ∷ []))
-AsksToSeal before after ask (Err f) = after ≡ before
-
--- the same of a call whose only refusal is want of memory
-abbrev pub AsksOrGivesUp : {A E : Type 0} → Option (List Ask) → Option (List Ask) → Ask → Result A E → Type 0
-AsksOrGivesUp before after ask (Ok value) = after ≡ grown before (ask ∷ [])
-AsksOrGivesUp before after ask (Err f) = (after ≡ before) ⊎ (after ≡ grown before (ask ∷ []))
+AsksToSeal before after ask (Err f) = (after ≡ before) ⊎ (after ≡ grown before (ask ∷ []))
 
 -- ---- opening
 

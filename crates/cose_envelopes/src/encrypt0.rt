@@ -1,9 +1,9 @@
-ghost use Rattle.std.specs.Prelude.{◌≡◌, [], ◌∷◌, Ok, IfOk};
+ghost use Rattle.std.specs.Prelude.{◌≡◌, [], ◌∷◌, Some, Ok, IfOk};
 ghost use Rattle.cbor_core.specs.Deterministic.{det};
 ghost use Rattle.cbor_core.specs.declared.item.Item.TheVariants as items;
 ghost use Rattle.cbor_core.specs.Spots.{spot_item};
 ghost use Rattle.cose_envelopes.specs.declared.encrypt0.Encrypt0.{Encrypt0};
-ghost use Rattle.cose_envelopes.specs.Envelope.{encrypt0_in, encrypt0_content, encrypt0_of, IsEncrypt0, item_of_encrypt0, IsWhole0};
+ghost use Rattle.cose_envelopes.specs.Envelope.{algorithm_in, encrypt0_in, encrypt0_content, encrypt0_of, IsEncrypt0, item_of_encrypt0, IsWhole0};
 ghost use Rattle.cose_envelopes.specs.Fault.{Reads};
 ghost use Rattle.cose_envelopes.specs.Opening.{encrypt0_at};
 ghost use Rattle.cose_envelopes.specs.Places.{encrypt0_place, sealed_place};
@@ -35,6 +35,8 @@ pub fn read_encrypt0(alloc: Global, bytes: &[u8]) -> Result<Encrypt0, CoseFault>
     ensures only { (value : Encrypt0) → IsEncrypt0 bytes.now value → Reads (Ok value) result }
     // Where the first fault stands.
     ensures exact { Reads (encrypt0_at bytes.now) result }
+    // The protected bytes name the algorithm.
+    ensures names { IfOk result (λ value. algorithm_in value.protected ≡ Some value.alg) }
 {
     read_whole(alloc, bytes)
 }

@@ -16,8 +16,8 @@ pub enum CoseFault {
     NotVerified,
     /// What is sealed does not hold under the key.
     NotOpened,
-    /// The suite has no such algorithm, or the envelope names another one. The number is that of the call, or 0 where
-    /// there is none.
+    /// The suite has no such algorithm, or the envelope names another one. The number is that of the call, for `verify`
+    /// that of the envelope, and 0 for `sign`.
     NoAlgorithm(i64),
     /// The signer failed, and the suite's count of faults rose in this call.
     Failed,

@@ -1,14 +1,14 @@
-ghost use Rattle.std.specs.Prelude.{◌≡◌, Ok, IfOk};
+ghost use Rattle.std.specs.Prelude.{◌≡◌, Some, Ok, IfOk};
 ghost use Rattle.cbor_core.specs.Deterministic.{det};
 ghost use Rattle.cbor_core.specs.Spots.{spot_item};
 ghost use Rattle.cose_envelopes.specs.declared.mac0.Mac0.{Mac0};
-ghost use Rattle.cose_envelopes.specs.Envelope.{mac0_in, mac0_content, mac0_of, IsMac0, item_of_mac0, IsWholeMac};
+ghost use Rattle.cose_envelopes.specs.Envelope.{algorithm_in, mac0_in, mac0_content, mac0_of, IsMac0, item_of_mac0, IsWholeMac};
 ghost use Rattle.cose_envelopes.specs.Fault.{Reads};
 ghost use Rattle.cose_envelopes.specs.Opening.{mac0_at};
 ghost use Rattle.cose_envelopes.specs.Places.{mac0_place};
 
 use crate::fault::{CoseFault, shape_fault};
-use crate::parts::{find_four_fault, read_pairs, read_protected};
+use crate::parts::{find_four_fault, is_unprotected, read_protected};
 use cbor_core::{Blob, Item, Items, NoMemory, Pairs, Part, write_det};
 use sqlite_items::Boxed;
 use std::alloc::Global;
@@ -32,6 +32,8 @@ pub fn read_mac0(alloc: Global, bytes: &[u8]) -> Result<Mac0, CoseFault>
     ensures only { (value : Mac0) → IsMac0 bytes.now value → Reads (Ok value) result }
     // Where the first fault stands.
     ensures exact { Reads (mac0_at bytes.now) result }
+    // The protected bytes name the algorithm.
+    ensures names { IfOk result (λ value. algorithm_in value.protected ≡ Some value.alg) }
 {
     read_whole(alloc, bytes)
 }
@@ -85,12 +87,14 @@ fn read_parts(
 ) -> Result<Option<Mac0>, NoMemory>
     ensures { IfOk result (λ value. value ≡ mac0_of (spot_item protected.now.spot, spot_item unprotected.now.spot, spot_item payload.now.spot, spot_item tag.now.spot)) }
 {
+    if !is_unprotected(unprotected) {
+        return Ok(None);
+    }
     let header = read_protected(alloc, protected)?;
-    let pairs = read_pairs(alloc, unprotected)?;
     let payload = payload.bytes(alloc)?;
     let tag = tag.bytes(alloc)?;
-    match (header, pairs, payload, tag) {
-        (Some((protected, alg)), Some(_), Some(payload), Some(tag)) => Ok(Some(Mac0 {
+    match (header, payload, tag) {
+        (Some((protected, alg)), Some(payload), Some(tag)) => Ok(Some(Mac0 {
             protected,
             alg,
             payload,

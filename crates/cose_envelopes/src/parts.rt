@@ -1,6 +1,6 @@
 //! The parts that envelopes have in common.
 
-ghost use Rattle.std.specs.Prelude.{◌≡◌, option_map, IfOk};
+ghost use Rattle.std.specs.Prelude.{◌≡◌, is_some, option_map, IfOk};
 ghost use Rattle.cbor_core.specs.declared.item.Item.{out-Item};
 ghost use Rattle.cbor_core.specs.Spots.{spot_item};
 ghost use Rattle.cbor_core.specs.Shapes.{pairs_layer};
@@ -41,6 +41,14 @@ pub(crate) fn read_pairs(alloc: Global, part: &Part) -> Result<Option<Pairs>, No
         Item::Map(pairs) => Ok(Some(pairs)),
         _ => Ok(None),
     }
+}
+
+/// Whether a part is an unprotected header, whose pairs are not looked at.
+#[tactic(auto, using(crate::proofs::HeaderLaws::map_has_pairs))]
+pub(crate) fn is_unprotected(part: &Part) -> bool
+    ensures { result ≡ is_some (pairs_layer (out-Item (spot_item part.now.spot))) }
+{
+    part.is_map()
 }
 
 /// The initialization vector of an unprotected header.

@@ -2,7 +2,7 @@ ghost use Rattle.std.specs.Prelude.{◌≡◌, ◌≤◌, ◌*◌, ◌/◌, ◌�
 ghost use Rattle.std.specs.Option.{option_map};
 ghost use Rattle.suite_port.specs.Asked.{Asks};
 ghost use Rattle.suite_port.specs.Asked.Ask.{Opened};
-ghost use Rattle.cose_envelopes.specs.Asking.{AsksOrGivesUp, AsksToOpen, AsksToSeal, asked_to_open, opening_of, sealing};
+ghost use Rattle.cose_envelopes.specs.Asking.{AsksToOpen, AsksToSeal, asked_to_open, opening_of, sealing};
 ghost use Rattle.cose_envelopes.specs.Envelope.{IsWhole0};
 ghost use Rattle.cose_envelopes.specs.Fault.{Answers, known};
 ghost use Rattle.cose_envelopes.specs.Opening.{key_front, sealed_value, sealed_bytes, encrypt0_at, opened, opened_by, opening};
@@ -62,7 +62,7 @@ pub(crate) fn seal_with<S: Suite>(
     ensures opened { IfOk result (λ bytes. opening S.Aead.bits S.Aead.opens alg key.now bytes ≡ Ok (iv.now, plain.now)) }
     ensures held { S.Holder.held suite.new ≡ S.Holder.held suite.old }
     ensures faults { S.Holder.faults suite.new ≡ S.Holder.faults suite.old }
-    ensures asked { AsksOrGivesUp (S.Holder.asked suite.old) (S.Holder.asked suite.new) (sealing alg (key_front bits key.now) iv.now plain.now) result }
+    ensures asked { AsksToSeal (S.Holder.asked suite.old) (S.Holder.asked suite.new) (sealing alg (key_front bits key.now) iv.now plain.now) result }
 {
     let value = seal_value(alloc, suite, alg, bits, key, iv, plain)?;
     write_encrypt0(alloc, &value)

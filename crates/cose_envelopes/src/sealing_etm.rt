@@ -3,7 +3,7 @@ ghost use Rattle.std.specs.Option.{option_map};
 ghost use Rattle.std.specs.Str.{bytes_eq};
 ghost use Rattle.cbor_core.specs.Deterministic.{det};
 ghost use Rattle.hash_hmac.specs.Hmac.{hmac_sha256};
-ghost use Rattle.cose_envelopes.specs.Asking.{AsksOrGivesUp, AsksToOpen, AsksToSeal, asked_to_open, asked_to_open_etm, opening_of_mac, sealing};
+ghost use Rattle.cose_envelopes.specs.Asking.{AsksToOpen, AsksToSeal, asked_to_open, asked_to_open_etm, opening_of_mac, sealing};
 ghost use Rattle.cose_envelopes.specs.Envelope.{item_of_mac0, IsWholeMac};
 ghost use Rattle.cose_envelopes.specs.Fault.{Answers, known};
 ghost use Rattle.cose_envelopes.specs.Opening.{inner_number, maced_value, mac0_at, sealed_bytes, sealed_etm, opening, opening_etm, opened_mac, or_not_opened};
@@ -66,7 +66,7 @@ fn seal_both<S: Suite>(
     ensures opened { IfOk result (λ bytes. opening_etm S.Aead.bits S.Aead.opens (negsuc 65538) key.now bytes ≡ Ok (iv.now, plain.now)) }
     ensures held { S.Holder.held suite.new ≡ S.Holder.held suite.old }
     ensures faults { S.Holder.faults suite.new ≡ S.Holder.faults suite.old }
-    ensures asked { AsksOrGivesUp (S.Holder.asked suite.old) (S.Holder.asked suite.new) (sealing inner_number (take 16 key.now) iv.now plain.now) result }
+    ensures asked { AsksToSeal (S.Holder.asked suite.old) (S.Holder.asked suite.new) (sealing inner_number (take 16 key.now) iv.now plain.now) result }
 {
     let payload = seal_with(alloc, suite, INNER, 128, key, iv, plain)?;
     write_maced(alloc, key, payload)

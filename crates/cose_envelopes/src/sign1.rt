@@ -1,8 +1,8 @@
-ghost use Rattle.std.specs.Prelude.{◌≡◌, Ok, IfOk};
+ghost use Rattle.std.specs.Prelude.{◌≡◌, Some, Ok, IfOk};
 ghost use Rattle.cbor_core.specs.Deterministic.{det};
 ghost use Rattle.cbor_core.specs.Spots.{spot_item};
 ghost use Rattle.cose_envelopes.specs.declared.sign1.Sign1.{Sign1};
-ghost use Rattle.cose_envelopes.specs.Envelope.{sign1_in, sign1_content, sign1_of, IsSign1, item_of_sign1, IsWhole1, norm_sign1};
+ghost use Rattle.cose_envelopes.specs.Envelope.{algorithm_in, sign1_in, sign1_content, sign1_of, IsSign1, item_of_sign1, IsWhole1, norm_sign1};
 ghost use Rattle.cose_envelopes.specs.Fault.{Reads};
 ghost use Rattle.cose_envelopes.specs.Opening.{sign1_at};
 ghost use Rattle.cose_envelopes.specs.Places.{sign1_place};
@@ -49,6 +49,8 @@ pub fn read_sign1(alloc: Global, bytes: &[u8]) -> Result<Sign1, CoseFault>
     ensures only { (value : Sign1) → IsSign1 bytes.now value → Reads (Ok value) result }
     // Where the first fault stands.
     ensures exact { Reads (sign1_at bytes.now) result }
+    // The protected bytes name the algorithm.
+    ensures names { IfOk result (λ value. algorithm_in value.protected ≡ Some value.alg) }
 {
     read_whole(alloc, bytes)
 }

@@ -1,11 +1,10 @@
 -- The parts of bodies: what each shape of part says, and how it is written (FIDO Device Onboard 1.1, section 3.3).
-use Rattle.std.specs.Prelude.{ℕ, ◌^◌, List, [], ◌∷◌, length, nat_le, ◌-◌, ◌==◌, if◌then◌else◌, Bool, false, Option, Some, None, option_map, Result, Ok, Err}
+use Rattle.std.specs.Prelude.{ℕ, ◌^◌, [], ◌∷◌, nat_le, ◌-◌, if◌then◌else◌, Option, Some, None, option_map}
 use Rattle.cbor_core.specs.declared.item.Item.{Item, out-Item}
 use Rattle.cbor_core.specs.declared.item.Item.TheOpen.{Item-F}
 use Rattle.cbor_core.specs.declared.item.Item.TheVariants as items
 use Rattle.cbor_core.specs.Spots.{bytes_in, text_in}
 use Rattle.cbor_core.specs.Shapes.{null, is_null, of_length}
-use Rattle.key_codec.specs.declared.fault.KeyFault.{KeyFault}
 use Rattle.key_codec.specs.Fault.{ok_of}
 use Rattle.key_codec.specs.Hash.{hash_in, item_of_hash}
 use Rattle.key_codec.specs.Key.{is_key_type, body_in, item_of_body}

@@ -1,11 +1,11 @@
 -- Where the first part stands that is not of its shape.
-use Rattle.std.specs.Prelude.{ℕ, ℤ, List, [], ◌∷◌, Bool, false, Option, Some, None, is_some, if◌then◌else◌}
+use Rattle.std.specs.Prelude.{ℕ, ℤ, Bool, false, Option, Some, None, is_some, if◌then◌else◌}
 use Rattle.cbor_core.specs.declared.item.Item.{out-Item}
-use Rattle.cbor_core.specs.Spots.{Spot, spot_item, spot_parts}
+use Rattle.cbor_core.specs.Spots.{Spot, spot_item}
 use Rattle.key_codec.specs.Key.{form_of}
 use Rattle.cbor_core.specs.Numbers.{integer_in}
 use Rattle.key_codec.specs.Places.{is_type, encoded_place, hash_place, sig_info_place}
-use Rattle.cbor_core.specs.Shapes.{is_array, is_text, five_spots}
+use Rattle.cbor_core.specs.Shapes.{is_text, five_spots}
 use Rattle.fdo_msgs.specs.declared.shape.Shape.{Shape}
 use Rattle.fdo_msgs.specs.declared.shape.Shape.TheVariants as shape
 

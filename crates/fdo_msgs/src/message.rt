@@ -155,20 +155,20 @@ fn say_six(kind: u8, a: Field, b: Field, c: Field, d: Field, e: Field, f: Field)
 pub(crate) fn fields(alloc: Global, message: &Msg) -> Result<Vec<Field>, NoMemory>
     ensures { IfOk result (λ fields. fields.items ≡ fields_of message.now) }
 {
-    let mut fields = Vec::with_capacity(alloc, 2)?;
     match message {
-        Msg::AppStart(info) => fields.push(Field::Mfg(info.copy(alloc)?))?,
-        Msg::SetCredentials(header) => fields.push(Field::Bytes(header.copy()?))?,
-        Msg::SetHmac(hmac) => fields.push(Field::Hash(*hmac))?,
-        Msg::DiDone | Msg::Hello => {}
+        Msg::AppStart(info) => one_field(alloc, Field::Mfg(info.copy(alloc)?)),
+        Msg::SetCredentials(header) => one_field(alloc, Field::Bytes(header.copy()?)),
+        Msg::SetHmac(hmac) => one_field(alloc, Field::Hash(*hmac)),
+        Msg::DiDone | Msg::Hello => Ok(Vec::new(alloc)),
         Msg::HelloAck(nonce) | Msg::Done(nonce) | Msg::Done2(nonce) => {
-            fields.push(Field::Sixteen(*nonce))?
+            one_field(alloc, Field::Sixteen(*nonce))
         }
-        Msg::AcceptOwner(seconds) => fields.push(Field::U32(*seconds))?,
-        Msg::HelloRv(sixteen, sig) | Msg::HelloRvAck(sixteen, sig) => {
-            fields.push(Field::Sixteen(*sixteen))?;
-            fields.push(Field::SigInfo(sig.copy(alloc)?))?;
-        }
+        Msg::AcceptOwner(seconds) => one_field(alloc, Field::U32(*seconds)),
+        Msg::HelloRv(sixteen, sig) | Msg::HelloRvAck(sixteen, sig) => two_fields(
+            alloc,
+            Field::Sixteen(*sixteen),
+            Field::SigInfo(sig.copy(alloc)?),
+        ),
         Msg::HelloDevice {
             max_size,
             guid,
@@ -176,26 +176,41 @@ pub(crate) fn fields(alloc: Global, message: &Msg) -> Result<Vec<Field>, NoMemor
             kex,
             cipher,
             sig,
-        } => return hello_device_fields(alloc, *max_size, guid, nonce, kex, *cipher, sig),
-        Msg::GetOvNextEntry(n) => fields.push(Field::U8(*n))?,
+        } => hello_device_fields(alloc, *max_size, guid, nonce, kex, *cipher, sig),
+        Msg::GetOvNextEntry(n) => one_field(alloc, Field::U8(*n)),
         Msg::DeviceReady { hmac, size } => {
-            fields.push(Field::MaybeHash(*hmac))?;
-            fields.push(Field::MaybeSize(*size))?;
+            two_fields(alloc, Field::MaybeHash(*hmac), Field::MaybeSize(*size))
         }
-        Msg::OwnerReady { size } => fields.push(Field::MaybeSize(*size))?,
+        Msg::OwnerReady { size } => one_field(alloc, Field::MaybeSize(*size)),
         Msg::Error {
             code,
             kind,
             text,
             stamp,
             id,
-        } => return error_fields(alloc, *code, *kind, text, stamp, id),
+        } => error_fields(alloc, *code, *kind, text, stamp, id),
     }
-    Ok(fields)
 }
 
 ghost use Rattle.std.specs.Prelude.{[], ◌∷◌};
 ghost use Rattle.fdo_msgs.specs.declared.field.Field.TheVariants as values;
+
+fn one_field(alloc: Global, field: Field) -> Result<Vec<Field>, NoMemory>
+    ensures { IfOk result (λ fields. fields.items ≡ field ∷ []) }
+{
+    let mut fields = Vec::with_capacity(alloc, 1)?;
+    fields.push(field)?;
+    Ok(fields)
+}
+
+fn two_fields(alloc: Global, first: Field, second: Field) -> Result<Vec<Field>, NoMemory>
+    ensures { IfOk result (λ fields. fields.items ≡ first ∷ second ∷ []) }
+{
+    let mut fields = Vec::with_capacity(alloc, 2)?;
+    fields.push(first)?;
+    fields.push(second)?;
+    Ok(fields)
+}
 
 fn hello_device_fields(
     alloc: Global,

@@ -3,16 +3,13 @@ ghost use Rattle.cbor_core.specs.declared.item.Item.{out-Item};
 ghost use Rattle.cbor_core.specs.Spots.{spot_item};
 ghost use Rattle.fdo_msgs.specs.declared.shape.Shape.TheVariants as shapes;
 ghost use Rattle.fdo_msgs.specs.Field.{up_to as number_up_to, field_in};
-ghost use Rattle.key_codec.specs.Fault.{ok_of};
 ghost use Rattle.cbor_core.specs.Shapes.{is_null as is_null_item};
-ghost use Rattle.key_codec.specs.Hash.{hash_in};
 
 use crate::field::Field;
 use crate::mfg::read_mfg;
 use crate::shape::Shape;
 use cbor_core::{NoMemory, Part, exactly};
-use hash_hmac::Hash;
-use key_codec::{KeyFault, read_hash, read_sig_info};
+use key_codec::{KeyFault, read_hash_part, read_sig_info};
 use std::alloc::Global;
 
 /// The value of a part of a shape, or None where the part is not of it.
@@ -147,21 +144,10 @@ fn read_sig(alloc: Global, part: &Part) -> Result<Option<Field>, NoMemory>
     }
 }
 
-/// The hash that a part is.
-fn hash_at(alloc: Global, part: &Part) -> Result<Option<Hash>, NoMemory>
-    ensures { IfOk result (λ hash. hash ≡ ok_of (hash_in (spot_item part.now.spot))) }
-{
-    let item = part.item(alloc)?;
-    match read_hash(&item) {
-        Ok(hash) => Ok(Some(hash)),
-        Err(_) => Ok(None),
-    }
-}
-
 fn read_digest(alloc: Global, part: &Part) -> Result<Option<Field>, NoMemory>
     ensures { IfOk result (λ field. field ≡ field_in shapes.Hash (spot_item part.now.spot)) }
 {
-    match hash_at(alloc, part)? {
+    match read_hash_part(alloc, part)? {
         Some(hash) => Ok(Some(Field::Hash(hash))),
         None => Ok(None),
     }
@@ -173,7 +159,7 @@ fn read_maybe_digest(alloc: Global, part: &Part) -> Result<Option<Field>, NoMemo
     if part.is_null() {
         return Ok(Some(Field::MaybeHash(None)));
     }
-    match hash_at(alloc, part)? {
+    match read_hash_part(alloc, part)? {
         Some(hash) => Ok(Some(Field::MaybeHash(Some(hash)))),
         None => Ok(None),
     }

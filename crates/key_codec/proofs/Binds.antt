@@ -1,5 +1,6 @@
 -- What a chain of readers that succeeded has read.
-use Rattle.std.proofs.Common.{◌≡◌, Option, Some, None, Result, Ok, Err, refl}
+use Rattle.std.proofs.Common.{◌≡◌, Option, Some, None, option_map, Result, Ok, Err, refl, ap}
+use Rattle.std.specs.Prelude.{is_some}
 use Rattle.key_codec.specs.declared.fault.KeyFault.{KeyFault}
 use Rattle.key_codec.specs.Fault.{◌>>=◌, shaped}
 
@@ -19,3 +20,7 @@ ok_is x y e = cc
 
 pub some_is : {A : Type 0} (x y : A) → Some x ≡ Some y → x ≡ y
 some_is x y e = cc
+
+pub some_of_map : {A B : Type 0} (f : A → B) (o : Option A) (p : Option B) → option_map f o ≡ p → is_some o ≡ is_some p
+some_of_map f (Some x) p e = ap is_some e
+some_of_map f None p e = ap is_some e

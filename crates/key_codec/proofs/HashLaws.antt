@@ -72,7 +72,7 @@ if_known_is kind (Some len) bytes hash known e =
     let long : length bytes ≡ len = (Decides-eqb (length bytes) len).0 p.0 in
     subst IsConsistent (ok_is (hash_value kind bytes) hash p.1) (record { len = known ∙ ap Some (sym long); zeros = drop_front bytes (replicate (48 - length bytes) 0) })
 
-pub by_kind_is : (kind : ℤ) (bytes : List ℕ) (hash : Hash) → hash_by_kind kind bytes ≡ Ok hash → IsConsistent hash
+by_kind_is : (kind : ℤ) (bytes : List ℕ) (hash : Hash) → hash_by_kind kind bytes ≡ Ok hash → IsConsistent hash
 unfolding hash_by_kind
 by_kind_is kind bytes hash e = if_known_is kind (length_of kind) bytes hash refl e
 
@@ -120,10 +120,6 @@ pub answers_hash : (item : Item) (r : Result Hash KeyFault) → r ≡ hash_in it
 answers_hash item (Ok hash) e = (hash_is item hash (sym e), hash_said item hash (sym e))
 answers_hash item (Err f) e = tt
 
-pub answers_by_kind : (kind : ℤ) (bytes : List ℕ) (r : Result Hash KeyFault) → r ≡ hash_by_kind kind bytes → IfOk r IsConsistent
-answers_by_kind kind bytes (Ok hash) e = by_kind_is kind bytes hash (sym e)
-answers_by_kind kind bytes (Err f) e = tt
-
 -- ---- no memory is taken
 
 abbrev Steady : {A : Type 0} → Result A KeyFault → Type 0
@@ -145,7 +141,7 @@ known_steady : (kind : ℤ) (o : Option ℕ) (bytes : List ℕ) → Steady (hash
 known_steady kind None bytes e = absurd cc
 known_steady kind (Some len) bytes e = test_steady (length bytes == len) (hash_value kind bytes) (length bytes) e
 
-pub by_kind_steady : (kind : ℤ) (bytes : List ℕ) → hash_by_kind kind bytes ≢ Err fault.NoMemory
+by_kind_steady : (kind : ℤ) (bytes : List ℕ) → hash_by_kind kind bytes ≢ Err fault.NoMemory
 unfolding hash_by_kind
 by_kind_steady kind bytes e = known_steady kind (length_of kind) bytes e
 

@@ -7,7 +7,7 @@ use Rattle.cbor_core.specs.Spots.{Spot, spot_item, spot_parts}
 use Rattle.hash_hmac.specs.Kind.{length_of}
 use Rattle.key_codec.specs.declared.encoding.Form.{Form}
 use Rattle.key_codec.specs.declared.encoding.Form.TheVariants as form
-use Rattle.cbor_core.specs.Shapes.{is_array, is_bytes, is_map, two_spots, three_spots}
+use Rattle.cbor_core.specs.Shapes.{is_array, is_bytes, labelled_at, two_spots, three_spots}
 use Rattle.key_codec.specs.Key.{is_key_type, is_curve, form_of}
 use Rattle.cbor_core.specs.Numbers.{integer_in}
 use Rattle.cbor_core.specs.Shapes.{is_number}
@@ -47,17 +47,13 @@ first_not_bytes at (s ∷ ss) = if is_bytes (out-Item (spot_item s)) then first_
 unfoldable pub chain_place : Spot → ℕ
 chain_place s = if is_array (out-Item (spot_item s)) then first_not_bytes s.at (spot_parts s) else s.at
 
--- a label stands among keys and values in turn
-abbrev pub has_label : ℤ → List Spot → Bool
-has_label label (k ∷ v ∷ ss) = is_number label (integer_in (spot_item k)) || has_label label ss
-has_label label _ = false
-
-abbrev pub has_labels : List Spot → Bool
-has_labels ss = has_label (pos 1) ss && has_label (negsuc 0) ss && has_label (negsuc 1) ss && has_label (negsuc 2) ss
+-- a map that has the label
+abbrev pub has_label : ℤ → Spot → Bool
+has_label label s = is_some (labelled_at label s)
 
 -- a map with all labels of a COSE key
 abbrev pub is_whole : Spot → Bool
-is_whole s = is_map (out-Item (spot_item s)) && has_labels (spot_parts s)
+is_whole s = has_label (pos 1) s && has_label (negsuc 0) s && has_label (negsuc 1) s && has_label (negsuc 2) s
 
 abbrev pub is_one_curve : Option ℤ → Bool
 is_one_curve None = false

@@ -3,11 +3,13 @@ ghost use Rattle.hash_hmac.specs.Bytes.{padded};
 ghost use Rattle.hash_hmac.specs.Value.{content, IsConsistent};
 ghost use Rattle.hash_hmac.specs.declared.hash.Hash.{Hash};
 ghost use Rattle.key_codec.specs.declared.fault.KeyFault.TheVariants.{NoMemory as OutOfMemory};
+ghost use Rattle.cbor_core.specs.Spots.{spot_item};
+ghost use Rattle.key_codec.specs.Fault.{ok_of};
 ghost use Rattle.key_codec.specs.Hash.{hash_by_kind, hash_in, item_of_hash};
 
 use crate::fault::KeyFault;
 use crate::parts::{bytes, number, two};
-use cbor_core::{Blob, Item, Items, NoMemory, integer_item};
+use cbor_core::{Blob, Item, Items, NoMemory, Part, integer_item};
 use hash_hmac::{Hash, length_of};
 use std::alloc::Global;
 
@@ -36,18 +38,6 @@ fn hash_at(item: &Item) -> Result<Hash, KeyFault>
     hash_by(kind, content.as_list())
 }
 
-/// The hash of a kind with these bytes, where their number is the kind's. The kind comes first. It takes no memory.
-pub fn hash_of_parts(kind: i64, bytes: &[u8]) -> Result<Hash, KeyFault>
-    // The hash, or which fault it is.
-    ensures exact { result ≡ hash_by_kind kind bytes.now }
-    // It takes no memory.
-    ensures memory { result ≢ Err OutOfMemory }
-    // What is made is consistent.
-    ensures is { IfOk result IsConsistent }
-{
-    hash_by(kind, bytes)
-}
-
 #[tactic(auto, unfolding(crate::specs::Hash::hash_by_kind))]
 fn hash_by(kind: i64, bytes: &[u8]) -> Result<Hash, KeyFault>
     ensures { result ≡ hash_by_kind kind bytes.now }
@@ -61,6 +51,17 @@ fn hash_by(kind: i64, bytes: &[u8]) -> Result<Hash, KeyFault>
             }
         }
         None => Err(KeyFault::BadType(kind)),
+    }
+}
+
+/// The hash that a part of an input is, or None where it is none.
+pub fn read_hash_part(alloc: Global, part: &Part) -> Result<Option<Hash>, NoMemory>
+    ensures { IfOk result (λ hash. hash ≡ ok_of (hash_in (spot_item part.now.spot))) }
+{
+    let item = part.item(alloc)?;
+    match hash_at(&item) {
+        Ok(hash) => Ok(Some(hash)),
+        Err(_) => Ok(None),
     }
 }
 

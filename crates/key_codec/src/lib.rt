@@ -2,6 +2,7 @@
 #![tactic(auto)]
 
 pub mod chain;
+mod cose;
 pub mod encoding;
 pub mod fault;
 pub mod hash;
@@ -17,7 +18,7 @@ pub mod write;
 pub use chain::X5Chain;
 pub use encoding::Form;
 pub use fault::KeyFault;
-pub use hash::{hash_item, hash_of_parts, read_hash};
+pub use hash::{hash_item, read_hash, read_hash_part};
 pub use key::{CoseKey, KeyBody, PublicKey};
 pub use kind::{
     HSS_LMS, LABORATORY, RSA2048RESTR, RSAPKCS, RSAPSS, SECP256R1, SECP384R1, is_key_type,

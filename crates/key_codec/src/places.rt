@@ -4,9 +4,10 @@ ghost use Rattle.std.specs.Prelude.{◌≡◌, option_map};
 ghost use Rattle.cbor_core.specs.declared.item.Item.{out-Item};
 ghost use Rattle.cbor_core.specs.Spots.{spot_item, spot_parts};
 ghost use Rattle.cbor_core.specs.Numbers.{integer_in};
-ghost use Rattle.key_codec.specs.Places.{is_kind as is_known_kind, sig_info_place, hash_place, chain_place, cose_place, form_place, body_place as place_of_body, encoded_place, is_type as is_known_type, key_place, has_label as has_a_label, has_labels as has_all_labels, is_whole as is_whole_map, fits_label as fits_a_label, fits_number as fits_a_number, first_unfit, is_one_curve};
+ghost use Rattle.key_codec.specs.Places.{is_kind as is_known_kind, sig_info_place, hash_place, chain_place, cose_place, form_place, body_place as place_of_body, encoded_place, is_type as is_known_type, key_place, has_label as has_a_label, is_whole as is_whole_map, fits_label as fits_a_label, fits_number as fits_a_number, first_unfit, is_one_curve};
 ghost use Rattle.cbor_core.specs.Shapes.{two_spots, three_spots};
 
+use crate::cose::{CURVE, EC2, FAMILY, X, Y, is_curve};
 use crate::encoding::Form;
 use crate::kind::is_key_type;
 use cbor_core::Part;
@@ -154,29 +155,13 @@ fn find_unfit(body: &Part) -> usize
 fn is_whole(map: &Part) -> bool
     ensures { result ≡ is_whole_map map.now.spot }
 {
-    map.is_map() && has_labels(map)
-}
-
-fn has_labels(map: &Part) -> bool
-    ensures { result ≡ has_all_labels (spot_parts map.now.spot) }
-{
-    has_label(map, 1) && has_label(map, -1) && has_label(map, -2) && has_label(map, -3)
+    has_label(map, FAMILY) && has_label(map, CURVE) && has_label(map, X) && has_label(map, Y)
 }
 
 fn has_label(map: &Part, label: i64) -> bool
-    ensures { result ≡ has_a_label label (spot_parts map.now.spot) }
+    ensures { result ≡ has_a_label label map.now.spot }
 {
-    let mut next = map.inside();
-    while let Some(key) = next {
-        let Some(value) = key.after() else {
-            return false;
-        };
-        if key.integer() == Some(label) {
-            return true;
-        }
-        next = value.after();
-    }
-    false
+    map.labelled(label).is_some()
 }
 
 fn fits_label(key: &Part, value: &Part) -> bool
@@ -192,15 +177,18 @@ fn fits_number(label: i64, value: &Part) -> bool
     ensures { result ≡ fits_a_number label value.now.spot }
 {
     match label {
-        1 => value.integer() == Some(2),
-        -1 => is_curve(value),
-        -2 | -3 => value.is_bytes(),
+        FAMILY => value.integer() == Some(EC2),
+        CURVE => names_curve(value),
+        X | Y => value.is_bytes(),
         _ => true,
     }
 }
 
-fn is_curve(value: &Part) -> bool
+fn names_curve(value: &Part) -> bool
     ensures { result ≡ is_one_curve (integer_in (spot_item value.now.spot)) }
 {
-    matches!(value.integer(), Some(1 | 2))
+    match value.integer() {
+        Some(curve) => is_curve(curve),
+        None => false,
+    }
 }

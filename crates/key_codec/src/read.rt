@@ -2,11 +2,12 @@ ghost use Rattle.std.specs.Prelude.{◌≡◌, ℕ, suc, Some, Ok, IfOk};
 ghost use Rattle.cbor_core.specs.Norm.{IsFit, IsFitWithin};
 ghost use Rattle.key_codec.specs.Fault.{Says};
 ghost use Rattle.key_codec.specs.Parts.{all_bytes};
-ghost use Rattle.key_codec.specs.Key.{chain_in, cose_in, cose_of, form_of, form_of_body, is_curve as is_known_curve, item_of_body, item_of_key, body_of_form, body_in, key_in, IsBody, IsBodyItem, IsKeyItem};
+ghost use Rattle.key_codec.specs.Key.{chain_in, cose_in, cose_of, form_of, form_of_body, item_of_body, item_of_key, body_of_form, body_in, key_in, IsBody, IsBodyItem, IsKeyItem};
 ghost use Rattle.key_codec.specs.declared.key.KeyBody.{KeyBody};
 ghost use Rattle.key_codec.specs.declared.key.PublicKey.{PublicKey};
 
 use crate::chain::X5Chain;
+use crate::cose::{CURVE, EC2, FAMILY, X, Y, is_curve};
 use crate::encoding::Form;
 use crate::fault::KeyFault;
 use crate::key::{CoseKey, KeyBody, PublicKey};
@@ -107,18 +108,6 @@ fn read_all(alloc: Global, items: &[Item]) -> Result<Vec<Blob>, KeyFault>
     Ok(all)
 }
 
-/// The label of a COSE key's type, and the type of keys on a curve.
-const FAMILY: i64 = 1;
-
-const EC2: i64 = 2;
-
-/// The labels of the curve and of the point's coordinates.
-const CURVE: i64 = -1;
-
-const X: i64 = -2;
-
-const Y: i64 = -3;
-
 fn read_cose(item: &Item) -> Result<CoseKey, KeyFault>
     ensures { Says (λ key. key) result (cose_in item.now) }
 {
@@ -145,10 +134,4 @@ fn read_pairs(pairs: &[(Item, Item)]) -> Result<CoseKey, KeyFault>
     } else {
         Err(KeyFault::BadShape)
     }
-}
-
-fn is_curve(curve: i64) -> bool
-    ensures { result ≡ is_known_curve curve }
-{
-    matches!(curve, 1 | 2)
 }

@@ -5,6 +5,7 @@ ghost use Rattle.cbor_core.specs.Norm.{IsFit, IsReadBack};
 ghost use Rattle.key_codec.specs.Key.{item_of_key, item_of_body, item_of_cose};
 
 use crate::chain::X5Chain;
+use crate::cose::{CURVE, EC2, FAMILY, X, Y};
 use crate::key::{CoseKey, KeyBody, PublicKey};
 use cbor_core::{Blob, Item, Items, NoMemory, Pairs, integer_item, write_det};
 use std::alloc::Global;
@@ -52,10 +53,10 @@ fn cose_item(alloc: Global, key: &CoseKey) -> Result<Item, NoMemory>
     ensures { IfOk result (λ item. item ≡ item_of_cose key.now) }
 {
     let mut pairs = Pairs::new(alloc);
-    pairs.push((Item::Uint(1), Item::Uint(2)))?;
-    pairs.push((Item::Nint(0), integer_item(key.curve)))?;
-    pairs.push((Item::Nint(1), Item::Bytes(key.x.copy()?)))?;
-    pairs.push((Item::Nint(2), Item::Bytes(key.y.copy()?)))?;
+    pairs.push((integer_item(FAMILY), integer_item(EC2)))?;
+    pairs.push((integer_item(CURVE), integer_item(key.curve)))?;
+    pairs.push((integer_item(X), Item::Bytes(key.x.copy()?)))?;
+    pairs.push((integer_item(Y), Item::Bytes(key.y.copy()?)))?;
     Ok(Item::Map(pairs))
 }
 

@@ -10,9 +10,9 @@ use Rattle.voucher_chain.specs.declared.voucher.Voucher.{Voucher}
 use Rattle.voucher_chain.specs.declared.fault.ChainFault.{ChainFault}
 use Rattle.voucher_chain.specs.declared.fault.ChainFault.TheVariants as fault
 use Rattle.voucher_chain.specs.Broken.{BreaksHash, BreaksSignature, BreaksEntry, IsFirstBreak}
-use Rattle.voucher_chain.specs.Chain.{Verifies, Links, HasCertificates, information, signature_told, front, last_key, last_bytes, same_hash, told_break, hash_break, signature_break, entry_break, links_break, certificates_break, first_break, checked}
+use Rattle.voucher_chain.specs.Chain.{Verifies, Links, HasCertificates, information, signature_told, front, last_key, last_bytes, same_hash, told_of, told_break, hash_break, signature_break, entry_break, links_break, certificates_break, first_break, checked}
 use Rattle.voucher_chain.specs.Fault.{Fails, Answers, or_else}
-use Rattle.voucher_chain.proofs.ChainLaws.{links_cons, links_nil, none_or, is_same, same_is, hash_holds, holds_hash, follows_found, follows_again, certificates_hold, hold_certificates}
+use Rattle.voucher_chain.proofs.ChainLaws.{links_cons, links_nil, is_same, same_is, hash_holds, holds_hash, follows_found, follows_again, certificates_hold, hold_certificates}
 
 or_else_some : {A : Type 0} (o p : Option A) (x : A) → or_else o p ≡ Some x → (o ≡ Some x) ⊎ ((o ≡ None) × (p ≡ Some x))
 or_else_some (Some y) p x e = inl e
@@ -26,21 +26,21 @@ none_then_some o p x e h = rw e h
 hash_broken : (unknown wrong : ChainFault) (hash : Hash) (text : List ℕ) (f : ChainFault) → hash_break unknown wrong hash text ≡ Some f → BreaksHash unknown wrong hash text f
 hash_broken unknown wrong hash text f e = go (hashed hash.kind text) refl e
   where
-    differs : (bytes : List ℕ) (b : Bool) → same_hash (hash_value hash.kind bytes) hash ≡ b → none_or b wrong ≡ Some f → (hash_value hash.kind bytes ≢ hash) × (f ≡ wrong)
+    differs : (bytes : List ℕ) (b : Bool) → same_hash (hash_value hash.kind bytes) hash ≡ b → told_break unknown wrong (Some b) ≡ Some f → (hash_value hash.kind bytes ≢ hash) × (f ≡ wrong)
     differs bytes true is e = absurd (cc e)
     differs bytes false is e = (λ same. let yes = is_same (hash_value hash.kind bytes) hash same in cc (is, yes), cc e)
 
-    go : (o : Option (List ℕ)) → hashed hash.kind text ≡ o → told_break unknown wrong hash o ≡ Some f → BreaksHash unknown wrong hash text f
+    go : (o : Option (List ℕ)) → hashed hash.kind text ≡ o → told_break unknown wrong (told_of hash o) ≡ Some f → BreaksHash unknown wrong hash text f
     go None is e = inl (is, cc e)
     go (Some bytes) is e =
         let d = differs bytes (same_hash (hash_value hash.kind bytes) hash) refl e in
         inr ((bytes, is, d.0), d.1)
 
 broken_hash : (unknown wrong : ChainFault) (hash : Hash) (text : List ℕ) (f : ChainFault) → BreaksHash unknown wrong hash text f → hash_break unknown wrong hash text ≡ Some f
-broken_hash unknown wrong hash text f (inl h) = ap (told_break unknown wrong hash) h.0 ∙ ap Some (sym h.1)
-broken_hash unknown wrong hash text f (inr h) = ap (told_break unknown wrong hash) h.0.1 ∙ differs (same_hash (hash_value hash.kind h.0.0) hash) refl
+broken_hash unknown wrong hash text f (inl h) = ap (λ (o : Option (List ℕ)). told_break unknown wrong (told_of hash o)) h.0 ∙ ap Some (sym h.1)
+broken_hash unknown wrong hash text f (inr h) = ap (λ (o : Option (List ℕ)). told_break unknown wrong (told_of hash o)) h.0.1 ∙ differs (same_hash (hash_value hash.kind h.0.0) hash) refl
   where
-    differs : (b : Bool) → same_hash (hash_value hash.kind h.0.0) hash ≡ b → none_or b wrong ≡ Some f
+    differs : (b : Bool) → same_hash (hash_value hash.kind h.0.0) hash ≡ b → told_break unknown wrong (Some b) ≡ Some f
     differs true is = absurd (h.0.2 (same_is (hash_value hash.kind h.0.0) hash is))
     differs false is = ap Some (sym h.1)
 

@@ -1,7 +1,7 @@
 -- The chain of a voucher's owners, entry by entry.
 use Rattle.std.proofs.Common.{◌≡◌, ℕ, ℤ, suc, ◌+◌, ◌-◌, ◌<◌, ◌≤◌, List, [], ◌∷◌, ◌++◌, length, drop, get_or, flat_map, Bool, true, false, Option, Some, None, Result, Ok, Err, IfOk, refl, sym, ap, subst, ◌∙◌, arith}
 use Rattle.std.specs.List.{slice_get}
-use Rattle.std.specs.Prelude.{◌&&◌, ◌==◌, if◌then◌else◌, option_map}
+use Rattle.std.specs.Prelude.{◌&&◌, ◌==◌, option_map}
 use Rattle.std.specs.Ordering.{int_eq}
 use Rattle.std.specs.Str.{bytes_eq}
 use Rattle.std.proofs.lemmas.List.{drop_more}
@@ -19,7 +19,7 @@ use Rattle.voucher_chain.specs.declared.header.Header.{Header}
 use Rattle.voucher_chain.specs.declared.voucher.Voucher.{Voucher}
 use Rattle.voucher_chain.specs.declared.fault.ChainFault.{ChainFault}
 use Rattle.voucher_chain.specs.declared.fault.ChainFault.TheVariants as fault
-use Rattle.voucher_chain.specs.Chain.{Verifies, Follows, Links, HasCertificates, Chain, information, signature_told, front, last_key, last_bytes, same_hash, told_break, hash_break, signature_break, entry_break, links_break, certificates_break, first_break, checked}
+use Rattle.voucher_chain.specs.Chain.{Verifies, Follows, Links, HasCertificates, Chain, information, signature_told, front, last_key, last_bytes, same_hash, told_of, hash_told, told_break, hash_break, signature_break, entry_break, links_break, certificates_break, first_break, checked}
 use Rattle.voucher_chain.specs.Fault.{Fails, Answers, or_else}
 use Rattle.voucher_chain.specs.Match.{IsHashOf}
 use Rattle.voucher_chain.specs.Extended.{IsExtended}
@@ -106,9 +106,6 @@ hash_with k l x = record { kind = k; len = l; bytes = x }
 abbrev some_hash : Hash → Option Hash
 some_hash h = Some h
 
-abbrev pub none_or : Bool → ChainFault → Option ChainFault
-none_or b f = if b then None else Some f
-
 pub same_is : (a b : Hash) → same_hash a b ≡ true → a ≡ b
 same_is a b e =
     let both = and_true (int_eq a.kind b.kind && (a.len == b.len)) (bytes_eq a.bytes b.bytes) e in
@@ -121,23 +118,30 @@ same_is a b e =
 pub is_same : (a b : Hash) → a ≡ b → same_hash a b ≡ true
 is_same a b e = rw ((Decides-int_eq a.kind b.kind).1 (ap (λ (h : Hash). h.kind) e), eq-eqb a.len b.len (ap (λ (h : Hash). h.len) e), (bytes_eq-Decides a.bytes b.bytes).1 (ap (λ (h : Hash). h.bytes) e)) refl
 
-pub hash_holds : (unknown wrong : ChainFault) (hash : Hash) (text : List ℕ) → hash_break unknown wrong hash text ≡ None → IsHashOf hash text
-hash_holds unknown wrong hash text e = go (hashed hash.kind text) e
+pub told_holds : (hash : Hash) (text : List ℕ) → hash_told hash text ≡ Some true → IsHashOf hash text
+told_holds hash text e = go (hashed hash.kind text) e
   where
-    told : (bytes : List ℕ) (b : Bool) → same_hash (hash_value hash.kind bytes) hash ≡ b → none_or b wrong ≡ None → some_hash (hash_value hash.kind bytes) ≡ some_hash hash
-    told bytes true is e = ap some_hash (same_is (hash_value hash.kind bytes) hash is)
-    told bytes false is e = absurd (cc e)
-
-    go : (o : Option (List ℕ)) → told_break unknown wrong hash o ≡ None → option_map (hash_value hash.kind) o ≡ Some hash
+    go : (o : Option (List ℕ)) → told_of hash o ≡ Some true → option_map (hash_value hash.kind) o ≡ Some hash
     go None e = absurd (cc e)
-    go (Some bytes) e = told bytes (same_hash (hash_value hash.kind bytes) hash) refl e
+    go (Some bytes) e = ap some_hash (same_is (hash_value hash.kind bytes) hash (cc e))
 
-pub holds_hash : (unknown wrong : ChainFault) (hash : Hash) (text : List ℕ) → IsHashOf hash text → hash_break unknown wrong hash text ≡ None
-holds_hash unknown wrong hash text e = go (hashed hash.kind text) e
+pub holds_told : (hash : Hash) (text : List ℕ) → IsHashOf hash text → hash_told hash text ≡ Some true
+holds_told hash text e = go (hashed hash.kind text) e
   where
-    go : (o : Option (List ℕ)) → option_map (hash_value hash.kind) o ≡ Some hash → told_break unknown wrong hash o ≡ None
+    go : (o : Option (List ℕ)) → option_map (hash_value hash.kind) o ≡ Some hash → told_of hash o ≡ Some true
     go None e = absurd (cc e)
     go (Some bytes) e = rw (is_same (hash_value hash.kind bytes) hash (cc e)) refl
+
+pub hash_holds : (unknown wrong : ChainFault) (hash : Hash) (text : List ℕ) → hash_break unknown wrong hash text ≡ None → IsHashOf hash text
+hash_holds unknown wrong hash text e = told_holds hash text (go (hash_told hash text) e)
+  where
+    go : (o : Option Bool) → told_break unknown wrong o ≡ None → o ≡ Some true
+    go None e = absurd (cc e)
+    go (Some true) e = refl
+    go (Some false) e = absurd (cc e)
+
+pub holds_hash : (unknown wrong : ChainFault) (hash : Hash) (text : List ℕ) → IsHashOf hash text → hash_break unknown wrong hash text ≡ None
+holds_hash unknown wrong hash text e = ap (told_break unknown wrong) (holds_told hash text e)
 
 signature_holds : (index : ℕ) (o : Option Bool) → signature_break index o ≡ None → o ≡ Some true
 signature_holds index None e = absurd (cc e)

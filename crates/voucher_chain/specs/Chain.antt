@@ -1,6 +1,6 @@
 -- The chain of a voucher's owners (FIDO Device Onboard 1.1, section 3.4): each entry is signed by the owner before it,
 -- holds the hash of the bytes before it and of the header's information, and names the next owner's key.
-use Rattle.std.specs.Prelude.{◌≡◌, ℕ, zero, suc, ◌+◌, ℤ, length, List, [], ◌∷◌, ◌++◌, flat_map, Bool, true, false, ◌&&◌, ◌==◌, if◌then◌else◌, Option, Some, None, Result, Ok, Err}
+use Rattle.std.specs.Prelude.{◌≡◌, ℕ, zero, suc, ◌+◌, ℤ, length, List, [], ◌∷◌, ◌++◌, flat_map, Bool, true, false, ◌&&◌, ◌==◌, Option, Some, None, Result, Ok, Err}
 use Rattle.std.specs.Ordering.{int_eq}
 use Rattle.std.specs.Str.{bytes_eq}
 use Rattle.cbor_core.specs.Deterministic.{det}
@@ -10,10 +10,10 @@ use Rattle.hash_hmac.specs.Value.{hash_value}
 use Rattle.key_codec.specs.declared.key.PublicKey.{PublicKey}
 use Rattle.key_codec.specs.Key.{item_of_key}
 use Rattle.cose_envelopes.specs.declared.sign1.Sign1.{Sign1}
+use Rattle.cose_envelopes.specs.Asking.{verifying}
 use Rattle.cose_envelopes.specs.Text.{sign1_structure}
 use Rattle.port_base.specs.Told.{grown}
 use Rattle.suite_port.specs.Asked.{Ask}
-use Rattle.suite_port.specs.Asked.Ask.{Verified}
 use Rattle.voucher_chain.specs.declared.entry.Entry.{Entry}
 use Rattle.voucher_chain.specs.declared.header.Header.{Header}
 use Rattle.voucher_chain.specs.declared.voucher.Voucher.{Voucher}
@@ -67,6 +67,10 @@ abbrev pub last_key : PublicKey → List Entry → PublicKey
 last_key key [] = key
 last_key key (e ∷ es) = last_key e.key es
 
+-- the bytes by which a suite knows it
+abbrev pub owner_bytes : Voucher → List ℕ
+owner_bytes v = det (item_of_key (last_key v.header.key v.entries))
+
 -- what stands before the next entry
 abbrev pub last_bytes : List ℕ → List Entry → List ℕ
 last_bytes before [] = before
@@ -77,13 +81,22 @@ last_bytes before (e ∷ es) = last_bytes e.raw es
 abbrev pub same_hash : Hash → Hash → Bool
 same_hash a b = int_eq a.kind b.kind && (a.len == b.len) && bytes_eq a.bytes b.bytes
 
+-- whether a hash is that of a text, by its own kind; none where that is none of a hash's
+abbrev pub told_of : Hash → Option (List ℕ) → Option Bool
+told_of hash None = None
+told_of hash (Some bytes) = Some (same_hash (hash_value hash.kind bytes) hash)
+
+abbrev pub hash_told : Hash → List ℕ → Option Bool
+hash_told hash text = told_of hash (hashed hash.kind text)
+
 -- a hash of a kind that is none of a hash's, or one of another text
-abbrev pub told_break : ChainFault → ChainFault → Hash → Option (List ℕ) → Option ChainFault
-told_break unknown wrong hash None = Some unknown
-told_break unknown wrong hash (Some bytes) = if same_hash (hash_value hash.kind bytes) hash then None else Some wrong
+abbrev pub told_break : ChainFault → ChainFault → Option Bool → Option ChainFault
+told_break unknown wrong None = Some unknown
+told_break unknown wrong (Some true) = None
+told_break unknown wrong (Some false) = Some wrong
 
 abbrev pub hash_break : ChainFault → ChainFault → Hash → List ℕ → Option ChainFault
-hash_break unknown wrong hash text = told_break unknown wrong hash (hashed hash.kind text)
+hash_break unknown wrong hash text = told_break unknown wrong (hash_told hash text)
 
 abbrev pub signature_break : ℕ → Option Bool → Option ChainFault
 signature_break index None = Some (fault.NoAlgorithm index)
@@ -116,11 +129,8 @@ checked (Some f) = Err f
 
 -- ---- what is asked of the suite
 
--- whether the signature of an entry is right under a key
-abbrev pub checking : PublicKey → Sign1 → Ask
-checking key sign = Verified (det (item_of_key key)) sign.alg (sign1_structure sign.protected sign.payload) sign.sig
-
--- that, once, where it is or the signature alone is wrong, and else nothing; a refusal names the entry
+-- whether the signature of an entry is right under a key, once, where it is or the signature alone is wrong, and else
+-- nothing; a refusal names the entry
 abbrev pub AsksToCheck : Option (List Ask) → Option (List Ask) → Ask → ℕ → Result (Unit {0}) ChainFault → Type 0
 AsksToCheck before after ask index (Ok value) = after ≡ grown before (ask ∷ [])
 AsksToCheck before after ask index (Err (fault.BadSignature number)) = (number ≡ index) × (after ≡ grown before (ask ∷ []))
@@ -134,7 +144,7 @@ AsksToCheck before after ask index (Err f) = ⊥
 abbrev pub checkings : ℕ → PublicKey → List Entry → List Ask
 checkings zero key es = []
 checkings (suc n) key [] = []
-checkings (suc n) key (e ∷ es) = checking key e.sign ∷ checkings n e.key es
+checkings (suc n) key (e ∷ es) = verifying (det (item_of_key key)) e.sign ∷ checkings n e.key es
 
 -- how many entries have had their signatures asked for where a chain is refused so
 abbrev pub asked_before : ChainFault → ℕ

@@ -1,9 +1,12 @@
 ghost use Rattle.std.specs.Prelude.{◌≡◌, ◌≤◌, ◌++◌, ◌⊎◌, ℕ, List, length, flat_map, Option, Ok, Err, IfOk, IfErr};
+ghost use Rattle.cbor_core.specs.Deterministic.{det};
 ghost use Rattle.key_codec.specs.declared.key.PublicKey.{PublicKey};
+ghost use Rattle.key_codec.specs.Key.{item_of_key};
+ghost use Rattle.cose_envelopes.specs.Asking.{verifying};
 ghost use Rattle.voucher_chain.specs.declared.fault.ChainFault.{ChainFault};
 ghost use Rattle.voucher_chain.specs.declared.fault.ChainFault.TheVariants.{BadCertHash as WrongCertificates, NoMemory as OutOfMemory};
 ghost use Rattle.voucher_chain.specs.Broken.{BreaksEntry, IsFirstBreak};
-ghost use Rattle.voucher_chain.specs.Chain.{AsksToCheck, AsksToCheckAll, Chain, Follows, checked, checking, certificates_break, entry_break, first_break, front, hash_break, last_key, links_break, signature_break, signature_told};
+ghost use Rattle.voucher_chain.specs.Chain.{AsksToCheck, AsksToCheckAll, Chain, Follows, checked, certificates_break, entry_break, first_break, front, hash_break, last_key, links_break, signature_break, signature_told};
 ghost use Rattle.voucher_chain.specs.Fault.{Answers, or_else};
 
 use crate::entry::Entry;
@@ -53,7 +56,7 @@ pub fn check_entry<S: Suite>(
     ensures held { S.Holder.held suite.new ≡ S.Holder.held suite.old }
     ensures faults { S.Holder.faults suite.new ≡ S.Holder.faults suite.old }
     // Where both hashes hold and the suite has the algorithm, it is asked once; a refusal has the number given.
-    ensures asked { AsksToCheck (S.Holder.asked suite.old) (S.Holder.asked suite.new) (checking signer.now entry.now.sign) index result }
+    ensures asked { AsksToCheck (S.Holder.asked suite.old) (S.Holder.asked suite.new) (verifying (det (item_of_key signer.now)) entry.now.sign) index result }
 {
     check_link(
         alloc,
@@ -81,7 +84,7 @@ fn check_link<S: Suite>(
     ensures answer { Answers (checked (entry_break S.Verifier.verifies header.now index (prev_first.now ++ prev_second.now) signer.now entry.now)) result }
     ensures held { S.Holder.held suite.new ≡ S.Holder.held suite.old }
     ensures faults { S.Holder.faults suite.new ≡ S.Holder.faults suite.old }
-    ensures asked { AsksToCheck (S.Holder.asked suite.old) (S.Holder.asked suite.new) (checking signer.now entry.now.sign) index result }
+    ensures asked { AsksToCheck (S.Holder.asked suite.old) (S.Holder.asked suite.new) (verifying (det (item_of_key signer.now)) entry.now.sign) index result }
 {
     let unknown = ChainFault::NoAlgorithm(index);
     check_hash(
@@ -102,7 +105,7 @@ fn check_link<S: Suite>(
     check_signature(alloc, suite, index, signer, &entry.sign)
 }
 
-/// Whether a hash is that of two texts in a row, by its own kind.
+/// Refuses a hash that is not that of two texts in a row.
 fn check_hash(
     hash: &Hash,
     first: &[u8],
@@ -113,19 +116,28 @@ fn check_hash(
     ensures answer { result ≡ checked (hash_break unknown wrong hash.now (first.now ++ second.now)) }
     ensures named { IfErr result (λ f. (f ≡ unknown) ⊎ (f ≡ wrong)) }
 {
-    match hash_of(hash.kind, first, second) {
-        Some(told) => {
-            if same(&told, hash) {
-                Ok(())
-            } else {
-                Err(wrong)
-            }
-        }
+    match is_hash_of(hash, first, second) {
+        Some(true) => Ok(()),
+        Some(false) => Err(wrong),
         None => Err(unknown),
     }
 }
 
-ghost use Rattle.voucher_chain.specs.Chain.{same_hash};
+ghost use Rattle.std.specs.Prelude.{◌↔◌, Some, true};
+ghost use Rattle.voucher_chain.specs.Chain.{hash_told, same_hash};
+ghost use Rattle.voucher_chain.specs.Match.{IsHashOf};
+
+/// Whether a hash is that of two texts in a row, by its own kind. None where that is none of a hash's.
+#[tactic(auto, using(crate::proofs::ChainLaws::told_holds, crate::proofs::ChainLaws::holds_told))]
+pub(crate) fn is_hash_of(hash: &Hash, first: &[u8], second: &[u8]) -> Option<bool>
+    ensures told { result ≡ hash_told hash.now (first.now ++ second.now) }
+    ensures is { (result ≡ Some true) ↔ IsHashOf hash.now (first.now ++ second.now) }
+{
+    match hash_of(hash.kind, first, second) {
+        Some(told) => Some(same(&told, hash)),
+        None => None,
+    }
+}
 
 fn same(a: &Hash, b: &Hash) -> bool
     ensures { result ≡ same_hash a.now b.now }
@@ -143,7 +155,7 @@ fn check_signature<S: Suite>(
     ensures answer { Answers (checked (signature_break index (signature_told S.Verifier.verifies signer.now sign.now))) result }
     ensures held { S.Holder.held suite.new ≡ S.Holder.held suite.old }
     ensures faults { S.Holder.faults suite.new ≡ S.Holder.faults suite.old }
-    ensures asked { AsksToCheck (S.Holder.asked suite.old) (S.Holder.asked suite.new) (checking signer.now sign.now) index result }
+    ensures asked { AsksToCheck (S.Holder.asked suite.old) (S.Holder.asked suite.new) (verifying (det (item_of_key signer.now)) sign.now) index result }
 {
     let key = key_bytes(alloc, signer)?;
     match verify(alloc, suite, key.as_list(), sign) {

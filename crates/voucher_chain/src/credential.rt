@@ -1,15 +1,17 @@
 ghost use Rattle.std.specs.Prelude.{◌≡◌, ◌↔◌, IfOk, IsTrue};
-ghost use Rattle.voucher_chain.specs.Match.{IsMatch, IsHashOf, IsMacOf};
+ghost use Rattle.voucher_chain.specs.Match.{IsMatch, IsMacOf};
 
+use crate::chain::is_hash_of;
+use crate::header::Guid;
 use crate::voucher::Voucher;
 use cbor_core::{Blob, NoMemory, Text};
-use hash_hmac::{HMac, Hash, hash_of, hmac_of};
+use hash_hmac::{HMac, Hash, hmac_of};
 use std::fmt;
 
 /// What a device keeps of its voucher (FIDO Device Onboard 1.1, section 3.4.1, "DeviceCredential").
 #[derive(Drop)]
 pub struct Credential {
-    pub guid: [u8; 16],
+    pub guid: Guid,
     /// The bytes of the rendezvous information.
     pub rv: Blob,
     /// DeviceInfo.
@@ -59,21 +61,12 @@ pub fn matches(credential: &Credential, voucher: &Voucher) -> bool
 {
     credential.guid == voucher.header.guid
         && voucher.hmac.kind == credential.alg as i64
-        && is_hash_of(&credential.key_hash, voucher.header.key_raw.as_list(), &[])
+        && is_hash_of(&credential.key_hash, voucher.header.key_raw.as_list(), &[]) == Some(true)
         && is_mac_of(
             &voucher.hmac,
             &credential.secret,
             voucher.header.raw.as_list(),
         )
-}
-
-ghost use Rattle.std.specs.Prelude.{◌++◌};
-
-/// Whether a hash is that of two texts in a row, by its own kind.
-pub(crate) fn is_hash_of(hash: &Hash, first: &[u8], second: &[u8]) -> bool
-    ensures { IsTrue result ↔ IsHashOf hash.now (first.now ++ second.now) }
-{
-    hash_of(hash.kind, first, second) == Some(*hash)
 }
 
 fn is_mac_of(hmac: &HMac, secret: &[u8], text: &[u8]) -> bool

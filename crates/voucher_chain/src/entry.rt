@@ -5,11 +5,11 @@ ghost use Rattle.voucher_chain.specs.Entry.{entry_at, entry_seen, entry_place, e
 ghost use Rattle.voucher_chain.specs.Fault.{Reads};
 
 use crate::fault::{ChainFault, shape_fault};
-use crate::header::{read_hash_part, read_key_part};
+use crate::header::read_key_part;
 use cbor_core::{Blob, CborFault, Item, Items, NoMemory, Part};
 use cose_envelopes::{Sign1, is_protected, sign1_part};
 use hash_hmac::Hash;
-use key_codec::{PublicKey, hash_item, key_item};
+use key_codec::{PublicKey, hash_item, key_item, read_hash_part};
 use std::alloc::Global;
 
 /// An entry of an ownership voucher (FIDO Device Onboard 1.1, section 3.4.2, "OVEntry").

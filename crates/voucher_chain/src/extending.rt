@@ -1,8 +1,7 @@
 ghost use Rattle.std.specs.Prelude.{◌≡◌, ◌≤◌, ◌++◌, [], ◌∷◌, List, length, true, IfOk};
 ghost use Rattle.cbor_core.specs.Deterministic.{det};
 ghost use Rattle.key_codec.specs.declared.key.PublicKey.{PublicKey};
-ghost use Rattle.key_codec.specs.Key.{item_of_key};
-ghost use Rattle.voucher_chain.specs.Chain.{Chain, last_key};
+ghost use Rattle.voucher_chain.specs.Chain.{Chain, last_key, owner_bytes};
 ghost use Rattle.voucher_chain.specs.Extended.{AreSized, AsksLonger, AsksNext, Counts, IsExtended, IsReadAgain, IsReadBack, Refuses, RefusesNext};
 
 use crate::chain::owner_key;
@@ -27,7 +26,7 @@ pub fn extend<S: Suite>(
     voucher: &Voucher,
     next: &PublicKey,
 ) -> Result<Voucher, ChainFault>
-    requires held { S.Holder.held suite.old (det (item_of_key (last_key voucher.now.header.key voucher.now.entries))) ≡ true }
+    requires held { S.Holder.held suite.old (owner_bytes voucher.now) ≡ true }
     requires few { length voucher.now.entries ≤ 255 }
     // All that the voucher had, its header, HMAC and entries byte for byte, and an entry that goes on from it to the next owner.
     ensures longer { IfOk result (IsExtended S.Verifier.verifies voucher.now next.now) }
@@ -37,11 +36,11 @@ pub fn extend<S: Suite>(
     // Where the voucher was read, and the next owner's key is of the form, it is read from its bytes as it stands.
     ensures back { IfOk result (IsReadBack voucher.now next.now) }
     // Which refusal it is.
-    ensures refused { Refuses (S.Signer.algorithm (det (item_of_key (last_key voucher.now.header.key voucher.now.entries)))) (length voucher.now.entries) result }
+    ensures refused { Refuses (S.Signer.algorithm (owner_bytes voucher.now)) (length voucher.now.entries) result }
     ensures held { S.Holder.held suite.new ≡ S.Holder.held suite.old }
     ensures faults { Counts (S.Holder.faults suite.old) (S.Holder.faults suite.new) result }
     // One signature is asked of the suite, over the new entry.
-    ensures asked { AsksLonger (S.Holder.asked suite.old) (S.Holder.asked suite.new) (det (item_of_key (last_key voucher.now.header.key voucher.now.entries))) voucher.now.entries result }
+    ensures asked { AsksLonger (S.Holder.asked suite.old) (S.Holder.asked suite.new) (owner_bytes voucher.now) voucher.now.entries result }
 {
     lengthen(alloc, suite, voucher, next)
 }
@@ -52,14 +51,14 @@ fn lengthen<S: Suite>(
     voucher: &Voucher,
     next: &PublicKey,
 ) -> Result<Voucher, ChainFault>
-    requires held { S.Holder.held suite.old (det (item_of_key (last_key voucher.now.header.key voucher.now.entries))) ≡ true }
+    requires held { S.Holder.held suite.old (owner_bytes voucher.now) ≡ true }
     requires few { length voucher.now.entries ≤ 255 }
     ensures longer { IfOk result (IsExtended S.Verifier.verifies voucher.now next.now) }
     ensures sizes { IfOk result (λ longer. AreSized voucher.now longer) }
-    ensures refused { Refuses (S.Signer.algorithm (det (item_of_key (last_key voucher.now.header.key voucher.now.entries)))) (length voucher.now.entries) result }
+    ensures refused { Refuses (S.Signer.algorithm (owner_bytes voucher.now)) (length voucher.now.entries) result }
     ensures held { S.Holder.held suite.new ≡ S.Holder.held suite.old }
     ensures faults { Counts (S.Holder.faults suite.old) (S.Holder.faults suite.new) result }
-    ensures asked { AsksLonger (S.Holder.asked suite.old) (S.Holder.asked suite.new) (det (item_of_key (last_key voucher.now.header.key voucher.now.entries))) voucher.now.entries result }
+    ensures asked { AsksLonger (S.Holder.asked suite.old) (S.Holder.asked suite.new) (owner_bytes voucher.now) voucher.now.entries result }
 {
     let count = voucher.entries.as_list().len();
     if count >= 255 {
@@ -82,14 +81,14 @@ fn next_entry<S: Suite>(
     index: u8,
     next: &PublicKey,
 ) -> Result<Entry, ChainFault>
-    requires held { S.Holder.held suite.old (det (item_of_key (last_key voucher.now.header.key voucher.now.entries))) ≡ true }
+    requires held { S.Holder.held suite.old (owner_bytes voucher.now) ≡ true }
     ensures next { IfOk result (IsNext S.Verifier.verifies voucher.now next.now) }
     // It is read from its bytes as it stands.
     ensures back { IfOk result (IsReadAgain next.now) }
-    ensures refused { RefusesNext (S.Signer.algorithm (det (item_of_key (last_key voucher.now.header.key voucher.now.entries)))) index result }
+    ensures refused { RefusesNext (S.Signer.algorithm (owner_bytes voucher.now)) index result }
     ensures held { S.Holder.held suite.new ≡ S.Holder.held suite.old }
     ensures faults { Counts (S.Holder.faults suite.old) (S.Holder.faults suite.new) result }
-    ensures asked { AsksNext (λ entry. entry.sign) (S.Holder.asked suite.old) (S.Holder.asked suite.new) (det (item_of_key (last_key voucher.now.header.key voucher.now.entries))) result }
+    ensures asked { AsksNext (λ entry. entry.sign) (S.Holder.asked suite.old) (S.Holder.asked suite.new) (owner_bytes voucher.now) result }
 {
     let bits = strength(&voucher.header.key);
     let (first, second) = texts_before(voucher);

@@ -6,7 +6,6 @@ ghost use Rattle.voucher_chain.specs.Fault.{Reads};
 ghost use Rattle.voucher_chain.specs.Header.{is_version as is_the_version, guid_in, header_of, header_seen, header_place, header_at, IsHeader, item_of_header, item_of_maybe_hash, header_with, maybe_hash_in};
 ghost use Rattle.key_codec.specs.Fault.{ok_of};
 ghost use Rattle.key_codec.specs.Key.{key_in};
-ghost use Rattle.key_codec.specs.Hash.{hash_in};
 
 use crate::fault::{ChainFault, shape_fault};
 use crate::rv_info::{RvInfo, find_rv_fault, read_rv, rv_item};
@@ -15,16 +14,19 @@ use cbor_core::{Blob, Item, Items, NoMemory, Part, Text, exactly, write_det};
 use hash_hmac::Hash;
 use key_codec::{
     KeyFault, PublicKey, find_hash_fault, find_key_fault, hash_item, key_bytes, key_item,
-    read_hash, read_key,
+    read_hash_part, read_key,
 };
 use std::alloc::Global;
+
+/// A device's identifier in a voucher and a credential: 16 bytes (FIDO Device Onboard 1.1, section 3.3.1).
+pub type Guid = [u8; 16];
 
 /// The header of an ownership voucher (FIDO Device Onboard 1.1, section 3.4.2, "OVHeader").
 #[derive(Debug, Drop)]
 pub struct Header {
     /// Its bytes as received, which spell the other fields.
     pub raw: Blob,
-    pub guid: [u8; 16],
+    pub guid: Guid,
     pub rv: RvInfo,
     /// DeviceInfo: what the manufacturer says of the device.
     pub info: Text,
@@ -142,7 +144,7 @@ fn read_parts(
 }
 
 /// A GUID: a byte string of 16 bytes.
-fn read_guid(alloc: Global, part: &Part) -> Result<Option<[u8; 16]>, NoMemory>
+fn read_guid(alloc: Global, part: &Part) -> Result<Option<Guid>, NoMemory>
     ensures { IfOk result (λ guid. guid ≡ guid_in (spot_item part.now.spot)) }
 {
     match part.bytes(alloc)? {
@@ -168,17 +170,6 @@ pub(crate) fn read_key_part(alloc: Global, part: &Part) -> Result<Option<PublicK
     match read_key(alloc, &item) {
         Ok(key) => Ok(Some(key)),
         Err(KeyFault::NoMemory) => Err(NoMemory),
-        Err(_) => Ok(None),
-    }
-}
-
-/// The hash that a part is.
-pub(crate) fn read_hash_part(alloc: Global, part: &Part) -> Result<Option<Hash>, NoMemory>
-    ensures { IfOk result (λ hash. hash ≡ ok_of (hash_in (spot_item part.now.spot))) }
-{
-    let item = part.item(alloc)?;
-    match read_hash(&item) {
-        Ok(hash) => Ok(Some(hash)),
         Err(_) => Ok(None),
     }
 }
@@ -241,19 +232,19 @@ ghost use Rattle.voucher_chain.specs.RvInfo.{AreNumbers};
 /// The item that a header with these parts is written as.
 pub fn header_item(
     alloc: Global,
-    guid: &[u8; 16],
+    guid: Guid,
     rv: &RvInfo,
     info: &Text,
     key: &PublicKey,
     chain_hash: &Option<Hash>,
 ) -> Result<Item, NoMemory>
-    ensures item { IfOk result (λ item. item ≡ item_of_header guid.now rv.now info.now key.now chain_hash.now) }
+    ensures item { IfOk result (λ item. item ≡ item_of_header guid rv.now info.now key.now chain_hash.now) }
     // The numbers of the variables have 64 bits.
     ensures numbers { IfOk result (λ item. AllByRecursion AreNumbers rv.now) }
 {
     let mut parts = Items::new(alloc);
     parts.push(Item::Uint(101))?;
-    parts.push(Item::Bytes(Blob::from_slice(alloc, guid)?))?;
+    parts.push(Item::Bytes(Blob::from_slice(alloc, &guid)?))?;
     parts.push(rv_item(alloc, rv)?)?;
     parts.push(Item::Text(info.copy()?))?;
     parts.push(key_item(alloc, key)?)?;
@@ -280,11 +271,11 @@ ghost use Rattle.voucher_chain.specs.Header.{IsMaybeHash, HasRoom};
 pub fn replacement(
     alloc: Global,
     header: &Header,
-    guid: &[u8; 16],
+    guid: Guid,
     rv: &RvInfo,
     key: &PublicKey,
 ) -> Result<Header, NoMemory>
-    ensures new { IfOk result (λ new. new ≡ header_with guid.now rv.now header.now.info key.now header.now.chain_hash) }
+    ensures new { IfOk result (λ new. new ≡ header_with guid rv.now header.now.info key.now header.now.chain_hash) }
     // Where the key and the hash are of the form, it is read from its bytes as it stands.
     ensures back { IsKey key.now → IsMaybeHash header.now.chain_hash → IfOk result (λ new. IsHeader new.raw new) }
 {
@@ -295,7 +286,7 @@ pub fn replacement(
     is_text(&header.info);
     Ok(Header {
         raw,
-        guid: *guid,
+        guid,
         rv: rv.copy(alloc)?,
         info: header.info.copy()?,
         key: key.copy(alloc)?,

@@ -18,7 +18,7 @@ pub use credential::{Credential, matches};
 pub use entry::{Entry, find_entry_fault, read_entry, read_entry_part};
 pub use extending::extend;
 pub use fault::ChainFault;
-pub use header::{Header, header_item, read_header, replacement};
+pub use header::{Guid, Header, header_item, read_header, replacement};
 pub use rv_info::{RvDirective, RvInfo, RvInstr, find_rv_fault, read_rv, rv_item};
 pub use strengths::{hash_kind_of, strength};
 pub use voucher::{Entries, Voucher, read_voucher, write_voucher};

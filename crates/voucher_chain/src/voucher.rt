@@ -9,10 +9,12 @@ ghost use Rattle.voucher_chain.specs.Voucher.{voucher_seen, voucher_values, vouc
 use crate::deep::find_deep_entry;
 use crate::entry::{Entry, find_entry_fault, read_entry_part};
 use crate::fault::{ChainFault, shape_fault};
-use crate::header::{Header, is_version, read_hash_part, read_header};
+use crate::header::{Header, is_version, read_header};
 use cbor_core::{Blob, Item, NoMemory, Part, write_det, write_head};
 use hash_hmac::{HMAC_SHA256, HMAC_SHA384, HMac};
-use key_codec::{KeyFault, X5Chain, chain_item, find_chain_fault, hash_item, read_chain};
+use key_codec::{
+    KeyFault, X5Chain, chain_item, find_chain_fault, hash_item, read_chain, read_hash_part,
+};
 use std::alloc::Global;
 use std::marker::Model;
 

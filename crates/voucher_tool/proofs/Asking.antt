@@ -1,5 +1,5 @@
 -- What is asked of a suite where memory runs out.
-use Rattle.std.proofs.Common.{◌≡◌, inl, ℕ, List, length, Option, Result, Ok, Err, refl}
+use Rattle.std.proofs.Common.{◌≡◌, inl, List, length, Option, Result, Ok, Err, refl}
 use Rattle.key_codec.specs.declared.key.PublicKey.{PublicKey}
 use Rattle.port_base.specs.Told.{grown}
 use Rattle.suite_port.specs.Asked.{Ask}

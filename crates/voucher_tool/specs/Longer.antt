@@ -1,12 +1,11 @@
 -- A longer voucher made of the bytes of one.
 use Rattle.std.specs.Prelude.{◌≡◌, ℕ, ℤ, List, length, Bool, true, false, Option, Result, Ok, Err}
-use Rattle.cbor_core.specs.Deterministic.{det}
 use Rattle.key_codec.specs.declared.key.PublicKey.{PublicKey}
-use Rattle.key_codec.specs.Key.{item_of_key, IsKey}
+use Rattle.key_codec.specs.Key.{IsKey}
 use Rattle.voucher_chain.specs.declared.fault.ChainFault.{ChainFault}
 use Rattle.voucher_chain.specs.declared.fault.ChainFault.TheVariants as fault
 use Rattle.voucher_chain.specs.declared.voucher.Voucher.{Voucher}
-use Rattle.voucher_chain.specs.Chain.{Verifies, last_key}
+use Rattle.voucher_chain.specs.Chain.{Verifies, owner_bytes}
 use Rattle.voucher_chain.specs.Extended.{AsksLonger, IsExtended, IsReadBack, MaySign, Refuses}
 use Rattle.suite_port.specs.Asked.{Ask}
 use Rattle.voucher_chain.specs.Reading.{IsVoucher, voucher_at}
@@ -25,10 +24,6 @@ pub record IsLonger (verifies : Verifies) (bytes : List ℕ) (next : PublicKey) 
   pub read : IsVoucher bytes voucher
   pub extended : IsRawExtended verifies voucher next made
   pub again : IsKey next → IsVoucher made extended.longer
-
--- by which the suite knows the last owner's key
-abbrev pub owner_bytes : Voucher → List ℕ
-owner_bytes v = det (item_of_key (last_key v.header.key v.entries))
 
 -- BadSignature with the number of entries exactly where the last owner's key is not held
 abbrev pub RefusesOwner : {A : Type 0} → Bool → Option ℤ → ℕ → Result A ChainFault → Type 0

@@ -1,7 +1,7 @@
 ghost use Rattle.std.specs.Prelude.{◌≡◌, ◌≤◌, length, IfOk};
 ghost use Rattle.voucher_chain.specs.Extended.{Counts, IsExtended};
 ghost use Rattle.voucher_chain.specs.Reading.{voucher_at};
-ghost use Rattle.voucher_tool.specs.Longer.{AsksFile, AsksRaw, IsLonger, RefusesFile, RefusesVoucher, UnlessMemory, owner_bytes};
+ghost use Rattle.voucher_tool.specs.Longer.{AsksFile, AsksRaw, IsLonger, RefusesFile, RefusesVoucher, UnlessMemory};
 
 use cbor_core::Blob;
 use key_codec::{PublicKey, key_bytes};

@@ -9,7 +9,7 @@ use key_codec::{PublicKey, X5Chain};
 use sha2::{Digest, Sha256};
 use std::alloc::Global;
 use uuid::Uuid;
-use voucher_chain::{Entry, RvDirective, RvInstr, Voucher};
+use voucher_chain::{Entry, Guid, RvDirective, RvInstr, Voucher};
 
 /// The text that shows a voucher, line by line: version, GUID, DeviceInfo, the manufacturer's key, the HMAC, the number of
 /// certificates, the instructions of the rendezvous information, and the entries with their keys.
@@ -56,7 +56,7 @@ fn put_first(alloc: Global, out: &mut Vec<u8>, voucher: &Voucher) -> Result<(), 
 
 ghost use Rattle.uuid.specs.Text.{hyphenated_text, lower};
 
-fn put_guid(out: &mut Vec<u8>, guid: &[u8; 16]) -> Result<(), NoMemory>
+fn put_guid(out: &mut Vec<u8>, guid: &Guid) -> Result<(), NoMemory>
     ensures { OnOk result (out.new.items ≡ out.old.items ++ ended (codes "guid " ++ hyphenated_text lower guid.now)) }
 {
     let mut buffer = [0; 36];

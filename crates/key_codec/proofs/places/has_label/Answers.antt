@@ -1,9 +1,8 @@
-use Rattle.std.proofs.Common.{to_z-of_z}
-use Rattle.cbor_core.proofs.SpotLaws.{none_left}
+use Rattle.std.proofs.Common.{◌∙◌, to_z-of_z}
+use Rattle.cbor_core.specs.Shapes.{labelled_at}
+use Rattle.cbor_core.specs.Spots.{Standing}
+use Rattle.key_codec.proofs.Binds.{some_of_map}
 use Rattle.key_codec.proofs.places.has_label.Goals as goal
 
-pub returns-in_default-after : goal.returns-in_default-after
-returns-in_default-after c = rw (to_z-of_z c.ranges.label, c.in-Some.is, none_left c.in-Some.key.later c.after.result c.after.ensures c.in_default-after.is) at c.loop-next.invariant
-
 pub returns : goal.returns
-returns c = rw (to_z-of_z c.ranges.label, c.in_default.is) at c.loop-next.invariant
+returns c = c.is_some.ensures ∙ some_of_map (λ (p : Standing). p.spot) c.labelled.result (labelled_at c.args.label c.args.map.now.spot) (rw (to_z-of_z c.ranges.label) at c.labelled.ensures.spots)

@@ -1,4 +1,4 @@
-use Rattle.std.proofs.Common.{◌≡◌, ◌++◌, [], length, ap, subst, ◌∙◌, append-nil, Ok, Err, arith}
+use Rattle.std.proofs.Common.{◌≡◌, ◌++◌, [], length, ap, subst, ◌∙◌, append-nil, Ok, arith}
 use Rattle.voucher_chain.specs.Chain.{links_break, entry_break, front, checked}
 use Rattle.voucher_chain.specs.Fault.{Fails}
 use Rattle.voucher_chain.specs.Chain.{AsksToCheckAll, AsksUpTo}
