@@ -3,14 +3,14 @@ use Rattle.std.specs.Prelude.{◌≡◌, ◌≢◌, ◌⊎◌, ℕ, List, [], le
 use Rattle.port_base.specs.Count.{Rises}
 use Rattle.suite_port.specs.Asked.{Ask}
 use Rattle.key_codec.specs.declared.key.PublicKey.{PublicKey}
-use Rattle.voucher_chain.specs.Chain.{Verifies, asked_before, checkings, first_break}
+use Rattle.voucher_chain.specs.Chain.{Verifies, asked_before, checkings, first_break, owner_bytes}
 use Rattle.voucher_chain.specs.Extended.{Counts, MaySign}
 use Rattle.voucher_chain.specs.Reading.{voucher_at}
 use Rattle.voucher_chain.specs.declared.fault.ChainFault.{ChainFault}
 use Rattle.voucher_chain.specs.declared.fault.ChainFault.TheVariants as fault
 use Rattle.voucher_chain.specs.declared.voucher.Voucher.{Voucher}
 use Rattle.voucher_tool.specs.Check.{check_told}
-use Rattle.voucher_tool.specs.Longer.{AsksFile, IsLonger, RefusesFile, owner_bytes}
+use Rattle.voucher_tool.specs.Longer.{AsksFile, IsLonger, RefusesFile}
 use Rattle.voucher_tool.specs.Refusal.{refusal_text}
 use Rattle.voucher_tool.specs.Show.{show_text}
 use Rattle.fdo_commands.specs.Outside.{Keys, Signing, asking}

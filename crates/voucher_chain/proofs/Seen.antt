@@ -71,7 +71,7 @@ seen_is s v e =
     let c = bind_some (certificates_in (spot_item p.0.3)) (λ chain. entries_inside p.0.4 >>= λ entries. Some (made s p.0.2 h.0 m.0 chain entries)) v h.2 in
     let es = bind_some (entries_inside p.0.4) (λ entries. Some (made s p.0.2 h.0 m.0 c.0 entries)) v c.2 in
     subst (IsSeen s) {x = made s p.0.2 h.0 m.0 c.0 es.0} (some_is (made s p.0.2 h.0 m.0 c.0 es.0) v es.2)
-    (record { parts = p.0; five = p.1; version = g.0; header = h.1; hmac = m.1; chain = c.1; entries = es.1; raw = refl; hmac_raw = refl })
+    (record { parts = p.0; five = p.1; version = g.0; header = h.1; hmac = m.1; chain = c.1; entries = es.1; raw = refl {a = spot_raw s}; hmac_raw = refl {a = spot_raw p.0.2} })
 
 -- ---- the bytes that are kept
 
@@ -91,7 +91,7 @@ header_kept s header e =
     let i = bind_some (text_in (out-Item (spot_item p.0.3))) (λ info. ok_of (key_in (spot_item p.0.4)) >>= λ own. maybe_hash_in (spot_item p.0.5) >>= λ hash. Some (header_made s p.0.4 g.0 r.0 info own hash)) header r.2 in
     let k = bind_some (ok_of (key_in (spot_item p.0.4))) (λ own. maybe_hash_in (spot_item p.0.5) >>= λ hash. Some (header_made s p.0.4 g.0 r.0 i.0 own hash)) header i.2 in
     let h = bind_some (maybe_hash_in (spot_item p.0.5)) (λ hash. Some (header_made s p.0.4 g.0 r.0 i.0 k.0 hash)) header k.2 in
-    sym (ap (λ (w : Header). w.raw) (some_is (header_made s p.0.4 g.0 r.0 i.0 k.0 h.0) header h.2))
+    sym (ap (λ (w : Header). w.raw) {x = header_made s p.0.4 g.0 r.0 i.0 k.0 h.0} (some_is (header_made s p.0.4 g.0 r.0 i.0 k.0 h.0) header h.2))
 
 pub entry_kept : (s : Spot) (entry : Entry) → entry_seen s ≡ Some entry → entry.raw ≡ spot_raw s
 unfolding entry_seen

@@ -69,6 +69,10 @@ pub record IsExtended (verifies : Verifies) (v : Voucher) (next : PublicKey) (lo
   pub back : IsReadAgain next entry
   pub all : longer ≡ voucher_with v.header v.hmac v.hmac_raw v.chain (v.entries ++ entry ∷ [])
 
+-- the entry that a longer voucher has more than these is signed with this algorithm
+abbrev pub IsSignedWith : Option ℤ → List Entry → Voucher → Type 0
+IsSignedWith told entries longer = (entry : Entry) × (longer.entries ≡ entries ++ entry ∷ []) × (told ≡ Some entry.sign.alg)
+
 -- ---- bytes in memory
 
 pub record AreSized (v longer : Voucher) : Type 0 where

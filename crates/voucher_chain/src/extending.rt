@@ -1,8 +1,8 @@
-ghost use Rattle.std.specs.Prelude.{◌≡◌, ◌≤◌, ◌++◌, [], ◌∷◌, List, length, true, IfOk};
+ghost use Rattle.std.specs.Prelude.{◌≡◌, ◌≤◌, ◌++◌, [], ◌∷◌, List, length, true, Some, IfOk};
 ghost use Rattle.cbor_core.specs.Deterministic.{det};
 ghost use Rattle.key_codec.specs.declared.key.PublicKey.{PublicKey};
 ghost use Rattle.voucher_chain.specs.Chain.{Chain, last_key, owner_bytes};
-ghost use Rattle.voucher_chain.specs.Extended.{AreSized, AsksLonger, AsksNext, Counts, IsExtended, IsReadAgain, IsReadBack, Refuses, RefusesNext};
+ghost use Rattle.voucher_chain.specs.Extended.{AreSized, AsksLonger, AsksNext, Counts, IsExtended, IsReadAgain, IsReadBack, IsSignedWith, Refuses, RefusesNext};
 
 use crate::chain::owner_key;
 use crate::entry::{Entry, payload_item_of};
@@ -35,6 +35,8 @@ pub fn extend<S: Suite>(
     ensures owner { IfOk result (λ longer. last_key longer.header.key longer.entries ≡ next.now) }
     // Where the voucher was read, and the next owner's key is of the form, it is read from its bytes as it stands.
     ensures back { IfOk result (IsReadBack voucher.now next.now) }
+    // The new entry is signed with the algorithm that the suite has for the last owner's key.
+    ensures algorithm { IfOk result (IsSignedWith (S.Signer.algorithm (owner_bytes voucher.now)) voucher.now.entries) }
     // Which refusal it is.
     ensures refused { Refuses (S.Signer.algorithm (owner_bytes voucher.now)) (length voucher.now.entries) result }
     ensures held { S.Holder.held suite.new ≡ S.Holder.held suite.old }
@@ -55,6 +57,7 @@ fn lengthen<S: Suite>(
     requires few { length voucher.now.entries ≤ 255 }
     ensures longer { IfOk result (IsExtended S.Verifier.verifies voucher.now next.now) }
     ensures sizes { IfOk result (λ longer. AreSized voucher.now longer) }
+    ensures algorithm { IfOk result (IsSignedWith (S.Signer.algorithm (owner_bytes voucher.now)) voucher.now.entries) }
     ensures refused { Refuses (S.Signer.algorithm (owner_bytes voucher.now)) (length voucher.now.entries) result }
     ensures held { S.Holder.held suite.new ≡ S.Holder.held suite.old }
     ensures faults { Counts (S.Holder.faults suite.old) (S.Holder.faults suite.new) result }
@@ -85,6 +88,7 @@ fn next_entry<S: Suite>(
     ensures next { IfOk result (IsNext S.Verifier.verifies voucher.now next.now) }
     // It is read from its bytes as it stands.
     ensures back { IfOk result (IsReadAgain next.now) }
+    ensures algorithm { IfOk result (λ entry. S.Signer.algorithm (owner_bytes voucher.now) ≡ Some entry.sign.alg) }
     ensures refused { RefusesNext (S.Signer.algorithm (owner_bytes voucher.now)) index result }
     ensures held { S.Holder.held suite.new ≡ S.Holder.held suite.old }
     ensures faults { Counts (S.Holder.faults suite.old) (S.Holder.faults suite.new) result }
@@ -148,7 +152,6 @@ fn payload_bytes(alloc: Global, prev: &Hash, hdr: &Hash, next: &PublicKey) -> Re
     write_det(alloc, &item)
 }
 
-ghost use Rattle.std.specs.Prelude.{Some};
 ghost use Rattle.cose_envelopes.specs.Envelope.{algorithm_in, protected_of};
 ghost use Rattle.cose_envelopes.specs.Text.{sign1_structure};
 
@@ -162,6 +165,7 @@ fn sign_payload<S: Suite>(
     requires { S.Holder.held suite.old key.now ≡ true }
     ensures parts { IfOk result (λ sign. (sign.unprotected ≡ []) × (sign.payload ≡ payload)) }
     ensures protected { IfOk result (λ sign. (sign.protected ≡ protected_of sign.alg) × (algorithm_in sign.protected ≡ Some sign.alg)) }
+    ensures algorithm { IfOk result (λ sign. S.Signer.algorithm key.now ≡ Some sign.alg) }
     ensures signed { IfOk result (λ sign. S.Verifier.verifies key.now sign.alg (sign1_structure sign.protected sign.payload) sign.sig ≡ Some true) }
     ensures refused { RefusesNext (S.Signer.algorithm key.now) index result }
     ensures held { S.Holder.held suite.new ≡ S.Holder.held suite.old }
