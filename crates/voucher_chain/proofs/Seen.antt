@@ -91,7 +91,7 @@ header_kept s header e =
     let i = bind_some (text_in (out-Item (spot_item p.0.3))) (λ info. ok_of (key_in (spot_item p.0.4)) >>= λ own. maybe_hash_in (spot_item p.0.5) >>= λ hash. Some (header_made s p.0.4 g.0 r.0 info own hash)) header r.2 in
     let k = bind_some (ok_of (key_in (spot_item p.0.4))) (λ own. maybe_hash_in (spot_item p.0.5) >>= λ hash. Some (header_made s p.0.4 g.0 r.0 i.0 own hash)) header i.2 in
     let h = bind_some (maybe_hash_in (spot_item p.0.5)) (λ hash. Some (header_made s p.0.4 g.0 r.0 i.0 k.0 hash)) header k.2 in
-    sym (ap (λ (w : Header). w.raw) {x = header_made s p.0.4 g.0 r.0 i.0 k.0 h.0} (some_is (header_made s p.0.4 g.0 r.0 i.0 k.0 h.0) header h.2))
+    sym {a = spot_raw s} (ap (λ (w : Header). w.raw) {x = header_made s p.0.4 g.0 r.0 i.0 k.0 h.0} (some_is (header_made s p.0.4 g.0 r.0 i.0 k.0 h.0) header h.2))
 
 pub entry_kept : (s : Spot) (entry : Entry) → entry_seen s ≡ Some entry → entry.raw ≡ spot_raw s
 unfolding entry_seen
