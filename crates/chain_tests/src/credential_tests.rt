@@ -1,6 +1,6 @@
 //! Which credentials match a voucher.
 use crate::voucher_rows::{FIVE, NO_ENTRIES, STRONG};
-use cbor_core::{Blob, Text};
+use cbor_core::{Blob, NoMemory, Text};
 use hash_hmac::{Hash, hash_of};
 use std::test::Fail;
 use voucher_chain::{Credential, Voucher, matches, read_voucher};
@@ -151,5 +151,47 @@ fn a_credential_is_printed_without_its_secret(rt: HostRuntime) -> Result<(), Fai
         }
         None => assert!(rt; false, "-16 is a kind of hash"),
     }
+    Ok(())
+}
+
+/// A credential whose parts all differ.
+fn some_credential(rt: &HostRuntime) -> Result<Credential, NoMemory> {
+    Ok(Credential {
+        guid: *b"0123456789abcdef",
+        rv: Blob::from_slice(rt.alloc(), b"\x81\x80")?,
+        info: Text::from_str(rt.alloc(), "device")?,
+        secret: SECRET,
+        key_hash: Hash {
+            kind: -16,
+            len: 32,
+            bytes: [9; 48],
+        },
+        alg: 6,
+    })
+}
+
+fn has_its_parts(credential: &Credential) -> bool {
+    credential.guid == *b"0123456789abcdef"
+        && credential.rv.as_list() == b"\x81\x80".as_slice()
+        && credential.info.as_list() == "device"
+        && credential.secret == SECRET
+        && credential.key_hash.kind == -16
+        && credential.key_hash.len == 32
+        && credential.key_hash.bytes == [9; 48]
+        && credential.alg == 6
+}
+
+fn is_copied(credential: &Credential) -> bool {
+    match credential.copy() {
+        Ok(copy) => has_its_parts(&copy),
+        Err(_) => false,
+    }
+}
+
+/// A copy of a credential has all its parts.
+#[test]
+fn a_credential_is_copied(rt: HostRuntime) -> Result<(), Fail> {
+    let credential = some_credential(&rt)?;
+    assert!(rt; is_copied(&credential));
     Ok(())
 }

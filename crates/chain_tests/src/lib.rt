@@ -14,6 +14,8 @@ mod extend_tests;
 #[cfg(test)]
 mod given;
 #[cfg(test)]
+mod link_tests;
+#[cfg(test)]
 mod reading_tests;
 #[cfg(test)]
 mod tool_tests;

@@ -216,3 +216,25 @@ fn own_texts_are_written(rt: HostRuntime) -> Result<(), Fail> {
     }
     Ok(())
 }
+
+/// The lines of the help that say how each command is called, and what it is.
+static COMMANDS: [&str; 8] = [
+    "usage: fdo step rendezvous",
+    "       fdo voucher show",
+    "       fdo voucher check",
+    "       fdo voucher extend KEY PRIVATE",
+    "  step rendezvous   the rendezvous server, message by message",
+    "  voucher show      what an ownership voucher says; its bytes are the input",
+    "  voucher check     whether its chain of owners holds, with the signatures of",
+    "  voucher extend    a voucher with one more entry, for the next owner; it",
+];
+
+/// What `--help` writes begins with how the first command is called, and has all four.
+#[test]
+fn the_help_has_each_command(rt: HostRuntime) {
+    let help: &str = HELP;
+    assert_eq!(rt; help.lines().next(), Some("usage: fdo step rendezvous"));
+    for command in &COMMANDS {
+        assert!(rt; help.lines().any(|line| line == *command), "{command}");
+    }
+}

@@ -7,4 +7,6 @@ mod message_tests;
 #[cfg(test)]
 mod step_tests;
 #[cfg(test)]
+mod voucher_rows;
+#[cfg(test)]
 mod voucher_tests;

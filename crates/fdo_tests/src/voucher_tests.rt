@@ -1,4 +1,5 @@
 //! `voucher show`, `voucher check` and `voucher extend` over objects in memory.
+use crate::voucher_rows::{EMPTY, P256, P256_SHOWN, WIDE_TAG, WIDE_TAG_OVERLOOKED};
 use cbor_core::Text;
 use fdo_commands::{Status, fdo};
 use fdo_ports::{ListRandom, MemorySink, MemorySource};
@@ -376,5 +377,77 @@ fn a_voucher_is_extended(rt: HostRuntime) -> Result<(), Fail> {
     let (output, ended) = run(rt.alloc(), words.as_slice(), input, [0, 0, 0])?;
     assert_eq!(rt; output.as_slice(), longer(rt.alloc())?.as_slice());
     assert_eq!(rt; ended, Status::Done);
+    Ok(())
+}
+
+/// Other vouchers: the command, the voucher's digits, and what has to be written and answered.
+static OTHERS: [(&'static str, &'static str, &'static [u8], Status); 5] = [
+    (
+        "check",
+        EMPTY,
+        b"ok 0 owner dc9f31d8cb902bb8ccf36cbee60fff0a0fff00fb43b623cac2fe31e53d34d455\n",
+        Status::Done,
+    ),
+    (
+        "check",
+        WIDE_TAG,
+        b"ok 3 owner b01f26c57aad37bfef506113a8f87d8d8c354dfcbacf476763d81fc22413d79c\n",
+        Status::Done,
+    ),
+    (
+        "check",
+        WIDE_TAG_OVERLOOKED,
+        b"refused badprevhash 1\n",
+        Status::Refused,
+    ),
+    ("check", P256, b"refused noalgorithm 0\n", Status::Refused),
+    ("show", P256, P256_SHOWN, Status::Done),
+];
+
+/// No entries; a hash is that of the bytes as they stand; and keys of which the suite has no algorithm.
+#[test]
+fn other_vouchers_are_shown_and_checked(rt: HostRuntime) -> Result<(), Fail> {
+    for (command, digits, wanted, status) in &OTHERS {
+        let words = words_of(rt.alloc(), command, &None)?;
+        let input = hex::decode(rt.alloc(), digits)?;
+        let (output, ended) = run(rt.alloc(), words.as_slice(), input, [0, 0, 0])?;
+        assert_eq!(rt; output.as_slice(), *wanted);
+        assert_eq!(rt; ended, *status);
+    }
+    Ok(())
+}
+
+/// For a voucher of 255 entries: the command, its KEY and PRIVATE, and what is refused.
+static FULL: [(&'static str, Option<[&'static str; 2]>, &'static [u8]); 3] = [
+    ("extend", Some([NEXT, "02"]), b"refused toolong\n"),
+    ("extend", Some([NEXT, "04"]), b"refused badsignature 255\n"),
+    ("check", None, b"refused badprevhash 1\n"),
+];
+
+/// A voucher of 255 entries, each of them the first one of another.
+fn full(alloc: Global) -> Result<Vec<u8>, Fail> {
+    let mut bytes = hex::decode(alloc, EMPTY)?;
+    let one = hex::decode(alloc, VOUCHER)?;
+    bytes.truncate(128);
+    bytes.extend_from_slice(b"\x98\xff")?;
+    if let Some(entry) = one.as_slice().get(129..) {
+        for _entry in 0..255 {
+            bytes.extend_from_slice(entry)?;
+        }
+    }
+    Ok(bytes)
+}
+
+/// A voucher of 255 entries gets no more, and the wrong private key is told first.
+#[test]
+fn a_full_voucher_is_refused(rt: HostRuntime) -> Result<(), Fail> {
+    for (command, more, wanted) in &FULL {
+        let words = words_of(rt.alloc(), command, more)?;
+        let input = full(rt.alloc())?;
+        assert_eq!(rt; input.len(), 32515);
+        let (output, ended) = run(rt.alloc(), words.as_slice(), input, [0, 0, 0])?;
+        assert_eq!(rt; output.as_slice(), *wanted);
+        assert_eq!(rt; ended, Status::Refused);
+    }
     Ok(())
 }

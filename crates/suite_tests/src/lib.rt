@@ -1,18 +1,23 @@
-//! Tests of `suite_port`: the laws of a suite as generic code uses them, a second suite that meets the traits, and the
-//! laboratory suite against values that Python's `hashlib` computed.
+//! Tests of `suite_port`: the laws of a suite as generic code uses them, a second suite that meets the traits, one that
+//! tells what it was asked, and the laboratory suite against values that Python's `hashlib` computed.
 #![tactic(auto)]
 
+pub mod asking;
 pub mod laws;
 pub mod plain_suite;
+pub mod telling_suite;
 #[cfg(test)]
 mod vectors;
 
 pub use plain_suite::PlainSuite;
+pub use telling_suite::{Call, Telling};
 
 #[cfg(test)]
 mod tests {
+    use crate::asking::{load_and_sign, load_and_sign_told};
     use crate::laws::{agree, issue_and_read, seal_and_open, sign_and_verify, two_keys};
     use crate::plain_suite::PlainSuite;
+    use crate::telling_suite::{Call, Telling};
     use crate::vectors::{KEYS, SEALS, SECRET, SECRETS};
     use std::test::Fail;
     use suite_port::{Aead, CertReader, Kex, LabSuite, Signer, SuiteFault, Verifier};
@@ -322,6 +327,63 @@ mod tests {
         assert!(rt; is_text(opened, b"text".as_slice()));
         assert!(rt; issue_and_read(&mut suite, alloc, b"key")?.as_slice() == b"key".as_slice());
         assert_eq!(rt; two_keys(&suite), (None, None));
+        Ok(())
+    }
+
+    /// Whether a suite was asked to load a key and to sign a text with it, and nothing else.
+    fn are_load_and_sign(calls: &[Call], private: &[u8], signer: &[u8], signed: &[u8]) -> bool {
+        match calls {
+            [Call::Loaded { private: loaded }, Call::Signed { key, text }] => {
+                loaded.as_slice() == private
+                    && key.as_slice() == signer
+                    && text.as_slice() == signed
+            }
+            _ => false,
+        }
+    }
+
+    #[test]
+    fn answered_calls_are_told(rt: HostRuntime) -> Result<(), Fail> {
+        let alloc = rt.alloc();
+        let mut suite = Telling::new(alloc, LabSuite::new(vec![in alloc; 3, 5]?));
+        let (key, _sig) = load_and_sign_told(&mut suite, alloc, b"\xff\x01", b"text")?;
+        let key = key.as_slice();
+        assert!(rt; are_load_and_sign(suite.calls(), b"\xff\x01", key, b"text"));
+        // the load fails, and then the signature
+        assert_eq!(rt;
+            ended(load_and_sign(&mut suite, alloc, b"\x02", b"")),
+            "failed"
+        );
+        assert_eq!(rt; suite.calls().len(), 2);
+        assert_eq!(rt;
+            ended(load_and_sign(&mut suite, alloc, b"\x02", b"")),
+            "failed"
+        );
+        assert_eq!(rt; suite.calls().len(), 3);
+        Ok(())
+    }
+
+    /// Each call at a suite that tells: one, then two, three, two and two more, and one that is refused.
+    #[test]
+    fn a_telling_suite_answers(rt: HostRuntime) -> Result<(), Fail> {
+        let alloc = rt.alloc();
+        let mut suite = Telling::new(alloc, LabSuite::new(Vec::new(alloc)));
+        let key = suite.load(alloc, b"\x01")?;
+        let key = key.as_slice();
+        assert!(rt; suite.holds(key) && sign_and_verify(&mut suite, alloc, key, b"text")?.verified);
+        assert_eq!(rt; suite.calls().len(), 3);
+        let (finished, shared) = agree(&mut suite, alloc, b"LAB32", &[1; 32], &[2; 32])?;
+        assert_eq!(rt; finished.as_slice(), shared.as_slice());
+        assert_eq!(rt; suite.calls().len(), 6);
+        let secret = b"0123456789abcdef";
+        let opened = seal_and_open(&mut suite, alloc, -65538, secret, &IV, b"", b"text")?;
+        assert!(rt; is_text(opened, b"text".as_slice()));
+        assert_eq!(rt; suite.calls().len(), 8);
+        assert_eq!(rt; issue_and_read(&mut suite, alloc, key)?.as_slice(), key);
+        assert_eq!(rt; suite.calls().len(), 10);
+        assert_eq!(rt; ended(suite.issue(alloc, b"\x82\x0a\x01")), "no algorithm");
+        assert_eq!(rt; suite.calls().len(), 10);
+        assert_eq!(rt; two_keys(&suite), (Some(256), Some(128)));
         Ok(())
     }
 }
