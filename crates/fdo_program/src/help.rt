@@ -52,8 +52,9 @@ Exit status, and the last line that is written for it
       key of the suite: `fault words`
    3  the input is wrong, and nothing is answered: `fault input N`, where N is
       the offset of the first wrong line, or of the part of a voucher that is
-      wrong or holds what is wrong; and 0 where `voucher show` gets more than
-      255 entries
+      wrong, cut off or holds what is wrong, or of the first byte behind the
+      voucher; the input's length where a part is missing; and 0 where
+      `voucher show` gets more than 255 entries
    4  reading the input failed: `fault read`
    5  writing the output failed
    7  out of memory
