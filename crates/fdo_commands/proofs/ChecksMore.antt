@@ -10,9 +10,10 @@ use Rattle.voucher_chain.specs.declared.fault.ChainFault.{ChainFault}
 use Rattle.voucher_chain.specs.declared.fault.ChainFault.TheVariants as fault
 use Rattle.voucher_chain.specs.declared.voucher.Voucher.{Voucher}
 use Rattle.voucher_tool.specs.Check.{check_told, told_of}
-use Rattle.fdo_commands.specs.Outside.{asking, keys}
+use Rattle.suite_port.specs.Keys.{asking}
 use Rattle.fdo_commands.specs.Vouchers.{Checks, ChecksFront, Keeps, Shows, asks_until, check_asks, checked_as, first_asks, refused_as, show_of, told_as}
 use Rattle.fdo_commands.specs.declared.texts.Told.{Told}
+use Rattle.fdo_commands.proofs.Records.{keys_of}
 
 -- the signatures that are asked for, by the break that is told; those of some first entries where memory runs out
 abbrev pub AskedFor : Option (List Ask) → Option (List Ask) → Voucher → Option ChainFault → Result (List ℕ) ChainFault → Type 0
@@ -103,10 +104,10 @@ nothing_first (Err f) = refl
 module _ (verifies : Verifies) (held held' : List ℕ → Bool) (count count' : ℕ) (before after : Option (List Ask)) (bytes : List ℕ) where
   abbrev pub ChecksFound : {E : Type 0} → Result Told E → Type 0
   ChecksFound found = MatchResult found
-      (λ what. Checks verifies (keys held count before) bytes what (keys held' count' after))
-      (λ _. ChecksFront (keys held count before) bytes (keys held' count' after))
+      (λ what. Checks verifies (keys_of held count before) bytes what (keys_of held' count' after))
+      (λ _. ChecksFront (keys_of held count before) bytes (keys_of held' count' after))
 
-  same_keys : held' ≡ held → count' ≡ count → (asks : List Ask) → after ≡ grown before asks → keys held' count' after ≡ asking (keys held count before) asks
+  same_keys : held' ≡ held → count' ≡ count → (asks : List Ask) → after ≡ grown before asks → keys_of held' count' after ≡ asking (keys_of held count before) asks
   same_keys one two asks three = rw (one, two, three) refl
 
   -- a voucher is read, and checked

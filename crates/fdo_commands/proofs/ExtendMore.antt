@@ -18,15 +18,17 @@ use Rattle.voucher_chain.specs.declared.fault.ChainFault.TheVariants as fault
 use Rattle.voucher_chain.specs.declared.voucher.Voucher.{Voucher}
 use Rattle.voucher_tool.specs.Longer.{AsksFile, RefusesFile}
 use Rattle.voucher_tool.specs.Refusal.{refused}
-use Rattle.fdo_commands.specs.Ending.{Streams, streams}
+use Rattle.suite_port.specs.Keys.{Keys}
+use Rattle.fdo_commands.specs.Ending.{Streams}
 use Rattle.fdo_commands.specs.Extending.{EntryEnds, ExtendEnds, Loaded, Unloaded}
-use Rattle.fdo_commands.specs.Outside.{Keys, Signing, keys}
+use Rattle.fdo_commands.specs.Outside.{Signing}
 use Rattle.fdo_commands.specs.Texts.{TextEnds}
 use Rattle.fdo_commands.specs.Vouchers.{Extends, ExtendsFront, MaySignFile, refused_as, told_as}
 use Rattle.fdo_commands.specs.declared.status.Status.{Status}
 use Rattle.fdo_commands.specs.declared.status.Status.TheVariants as status
 use Rattle.fdo_commands.specs.declared.texts.Told.{Told}
 use Rattle.fdo_commands.specs.declared.texts.Told.TheVariants as told
+use Rattle.fdo_commands.proofs.Records.{keys_of, streams_of}
 use Rattle.fdo_commands.proofs.TextsMore.{text_done, text_read, text_write}
 
 -- the suite's count of faults stays, or rises where the signer fails
@@ -135,15 +137,15 @@ module _ (signs : Signing) (next : PublicKey) (private : List ℕ) (s t : Keys) 
   extend_held status.Outside ends = same_held ends.0
 
 -- the private key is not loaded, and nothing is read
-pub unloaded_ends : (T : Type 0) (signs : Signing) (next : PublicKey) (private : List ℕ) (held held' : List ℕ → Bool) (count count' : ℕ) (asked asked' : Option (List Ask)) (left left' : Option (List ℕ)) (reads reads' : ℕ) (written written' : Option (List ℕ)) (writes writes' : ℕ) → (f : SuiteFault) → Decides {T = T} (signs.loads private) (Err f) → held' ≡ held → SuiteCounts {T = T} count count' (Err f) → asked' ≡ asked → left' ≡ left → reads' ≡ reads → (ending : Status) → Unloaded f written writes written' writes' ending → ExtendEnds signs next private (keys held count asked) (keys held' count' asked') (streams left reads written writes) (streams left' reads' written' writes') ending
+pub unloaded_ends : (T : Type 0) (signs : Signing) (next : PublicKey) (private : List ℕ) (held held' : List ℕ → Bool) (count count' : ℕ) (asked asked' : Option (List Ask)) (left left' : Option (List ℕ)) (reads reads' : ℕ) (written written' : Option (List ℕ)) (writes writes' : ℕ) → (f : SuiteFault) → Decides {T = T} (signs.loads private) (Err f) → held' ≡ held → SuiteCounts {T = T} count count' (Err f) → asked' ≡ asked → left' ≡ left → reads' ≡ reads → (ending : Status) → Unloaded f written writes written' writes' ending → ExtendEnds signs next private (keys_of held count asked) (keys_of held' count' asked') (streams_of left reads written writes) (streams_of left' reads' written' writes') ending
 unloaded_ends T signs next private held held' count count' asked asked' left left' reads reads' written written' writes writes' suite.NoAlgorithm known same counts quietly one two ending ends =
-    subst (ExtendEnds signs next private (keys held count asked) (keys held' count' asked') (streams left reads written writes) (streams left' reads' written' writes')) (sym ends.0)
+    subst (ExtendEnds signs next private (keys_of held count asked) (keys_of held' count' asked') (streams_of left reads written writes) (streams_of left' reads' written' writes')) (sym ends.0)
     (known, rw (same, counts, quietly) refl, record { line = ends.1; left = one; read_faults = two })
 unloaded_ends T signs next private held held' count count' asked asked' left left' reads reads' written written' writes writes' suite.Failed known same counts quietly one two ending ends =
-    subst (ExtendEnds signs next private (keys held count asked) (keys held' count' asked') (streams left reads written writes) (streams left' reads' written' writes')) (sym ends.0)
+    subst (ExtendEnds signs next private (keys_of held count asked) (keys_of held' count' asked') (streams_of left reads written writes) (streams_of left' reads' written' writes')) (sym ends.0)
     (same, counts, quietly, record { line = ends.1; left = one; read_faults = two })
 unloaded_ends T signs next private held held' count count' asked asked' left left' reads reads' written written' writes writes' suite.NoMemory known same counts quietly one two ending ends =
-    subst (ExtendEnds signs next private (keys held count asked) (keys held' count' asked') (streams left reads written writes) (streams left' reads' written' writes')) (sym ends.0)
+    subst (ExtendEnds signs next private (keys_of held count asked) (keys_of held' count' asked') (streams_of left reads written writes) (streams_of left' reads' written' writes')) (sym ends.0)
     (inl (rw (same, counts, quietly) refl, rw (one, two, ends.1, ends.2) refl))
 
 -- the private key is loaded, and the voucher is read then

@@ -4,6 +4,7 @@ pub mod LineParts
 pub mod LineFeeds
 pub mod AnswersMore
 pub mod TookMore
+pub mod Records
 pub mod EndingMore
 pub mod RvCounts
 pub mod OneInput

@@ -1,12 +1,13 @@
 -- What a command did says by its status which counts of faults rose.
 use Rattle.std.proofs.Common.{◌≡◌, ◌⊎◌, inl, inr, ℕ, Bool, true, List, [], refl, sym, ap, ◌∙◌, subst}
 use Rattle.port_base.specs.Count.{Rises}
+use Rattle.suite_port.specs.Keys.{Keys}
 use Rattle.fdo_commands.specs.Commands.{Unloadable}
-use Rattle.fdo_commands.specs.Outside.{Keys, Outside, Signing}
+use Rattle.fdo_commands.specs.Outside.{Outside, Signing}
 use Rattle.fdo_commands.specs.Ran.{Ran}
 use Rattle.fdo_commands.specs.Vouchers.{Checks, ChecksFront, Keeps, Shows}
 use Rattle.fdo_commands.specs.Texts.{TextEnds}
-use Rattle.rendezvous.specs.RvState.{RvGivesUp}
+use Rattle.rendezvous.specs.RvState.{RvGivesUp, rv_state}
 use Rattle.rendezvous.specs.RvStep.{RvStep}
 use Rattle.fdo_commands.specs.Ending.{Ends, Streams}
 use Rattle.fdo_commands.specs.declared.command.Command.{Command}
@@ -26,7 +27,7 @@ nothing_done signs VoucherCheck o = (([], took_nothing o.streams.left, refl, ref
 nothing_done signs (VoucherExtend next private) o = (inl (refl, refl), refl)
 
 -- the server's messages were answered
-pub ran_step : (signs : Signing) (command : Command) (before after : Outside) (ending : Status) → command ≡ StepRendezvous → Ends RvStep RvGivesUp (record { random = before.random }) (record { random = after.random }) before.streams after.streams ending → after.suite ≡ before.suite → Ran signs command before after ending
+pub ran_step : (signs : Signing) (command : Command) (before after : Outside) (ending : Status) → command ≡ StepRendezvous → Ends RvStep RvGivesUp (rv_state before.random) (rv_state after.random) before.streams after.streams ending → after.suite ≡ before.suite → Ran signs command before after ending
 ran_step signs command before after ending is ends same = subst (λ c. Ran signs c before after ending) (sym is) (ends, same, ends_random _ _ _ _ ending ends)
 
 suite_faults : (one other : Keys) → one ≡ other → one.faults ≡ other.faults

@@ -5,6 +5,7 @@ use Rattle.fdo_ports.specs.Count.{Counts}
 use Rattle.port_base.specs.Count.{Rises}
 use Rattle.fdo_ports.specs.Told.{WritesAll}
 use Rattle.port_base.specs.Told.{grown}
+use Rattle.fdo_ports.specs.declared.channel.Channel.{Ghosts as Channel}
 use Rattle.fdo_ports.specs.declared.failed.Failed.{Failed}
 use Rattle.fdo_msgs.specs.Run.{Runs}
 use Rattle.fdo_msgs.specs.declared.answer.Answer.{Answer}
@@ -23,8 +24,14 @@ pub record Streams : Type 0 where
   pub written : Option (List ℕ)
   pub write_faults : ℕ
 
-abbrev pub streams : Option (List ℕ) → ℕ → Option (List ℕ) → ℕ → Streams
-streams left read_faults written write_faults = record { left = left; read_faults = read_faults; written = written; write_faults = write_faults }
+-- those of an input and an output of two types, by the types' `Channel`
+abbrev pub streams : {I O : Type 0} → Channel I → I → Channel O → O → Streams
+streams source input sink output = record {
+  left = source.left input;
+  read_faults = source.read_faults input;
+  written = sink.written output;
+  write_faults = sink.write_faults output;
+}
 
 -- a last line is written; where the output fails in it, it lacks something at its end
 abbrev pub EndsWith : Option (List ℕ) → ℕ → Option (List ℕ) → ℕ → List ℕ → Type 0

@@ -7,8 +7,9 @@ use Rattle.suite_port.specs.Asked.Ask.{Loaded as AskedToLoad}
 use Rattle.suite_port.specs.Held.{Adds}
 use Rattle.suite_port.specs.declared.fault.SuiteFault.{SuiteFault}
 use Rattle.suite_port.specs.declared.fault.SuiteFault.TheVariants as fault
+use Rattle.suite_port.specs.Keys.{Keys}
 use Rattle.fdo_commands.specs.Ending.{EndsWith, Streams}
-use Rattle.fdo_commands.specs.Outside.{Keys, OnlyLine, Signing}
+use Rattle.fdo_commands.specs.Outside.{OnlyLine, Signing}
 use Rattle.fdo_commands.specs.Texts.{TextEnds}
 use Rattle.fdo_commands.specs.Vouchers.{Extends, ExtendsFront}
 use Rattle.fdo_commands.specs.declared.status.Status.{Status}

@@ -1,23 +1,12 @@
 -- The objects of the outside, as a command meets them.
 use Rattle.std.specs.Prelude.{◌≡◌, ℕ, ℤ, Bool, List, Option, codes}
-use Rattle.port_base.specs.Told.{grown}
-use Rattle.fdo_ports.specs.Draw.{Drawn}
-use Rattle.suite_port.specs.Asked.{Ask}
+use Rattle.fdo_ports.specs.Draw.{Drawn, drawn}
+use Rattle.fdo_ports.specs.declared.channel.Channel.{Ghosts as Channel}
+use Rattle.fdo_ports.specs.declared.random.Random.{Ghosts as Random}
+use Rattle.suite_port.specs.Keys.{Keys, keys}
+use Rattle.suite_port.specs.declared.holder.Holder.{Ghosts as Holder}
 use Rattle.voucher_chain.specs.Chain.{Verifies}
 use Rattle.fdo_commands.specs.Ending.{EndsWith, Streams, streams}
-
--- the keys that a suite holds, its count of faults, and what it was asked, where it tells
-pub record Keys : Type 0 where
-  pub held : List ℕ → Bool
-  pub faults : ℕ
-  pub asked : Option (List Ask)
-
-abbrev pub keys : (List ℕ → Bool) → ℕ → Option (List Ask) → Keys
-keys held faults asked = record { held = held; faults = faults; asked = asked }
-
--- the suite is asked these, and nothing else is done to it
-abbrev pub asking : Keys → List Ask → Keys
-asking suite asks = keys suite.held suite.faults (grown suite.asked asks)
 
 -- what the objects tell, and their counts of faults
 pub record Outside : Type 0 where
@@ -25,11 +14,12 @@ pub record Outside : Type 0 where
   pub suite : Keys
   pub random : Drawn
 
-abbrev pub outside : Option (List ℕ) → ℕ → Option (List ℕ) → ℕ → (List ℕ → Bool) → ℕ → Option (List Ask) → Option (List (List ℕ)) → ℕ → Outside
-outside left read_faults written write_faults held suite_faults asked draws draw_faults = record {
-  streams = streams left read_faults written write_faults;
-  suite = keys held suite_faults asked;
-  random = record { draws = draws; faults = draw_faults };
+-- those of an input, an output, a suite and a source of random draws, by their types' traits
+abbrev pub outside : {I O S N : Type 0} → Channel I → I → Channel O → O → Holder S → S → Random N → N → Outside
+outside source input sink output holder suite draws random = record {
+  streams = streams source input sink output;
+  suite = keys holder suite;
+  random = drawn draws random;
 }
 
 -- what a suite says of signatures and keys, whichever of them it holds

@@ -1,7 +1,7 @@
 -- What a command did to the objects of the outside.
 use Rattle.std.specs.Prelude.{◌≡◌, ℕ, List}
 use Rattle.port_base.specs.Count.{Rises}
-use Rattle.rendezvous.specs.RvState.{RvGivesUp}
+use Rattle.rendezvous.specs.RvState.{RvGivesUp, rv_state}
 use Rattle.rendezvous.specs.RvStep.{RvStep}
 use Rattle.fdo_commands.specs.Commands.{IsExtendForm}
 use Rattle.fdo_commands.specs.Ending.{Ends}
@@ -17,7 +17,7 @@ use Rattle.fdo_commands.specs.declared.status.Status.TheVariants as status
 -- a command ended with a status, over a suite that says this of signatures and keys
 abbrev pub Ran : Signing → Command → Outside → Outside → Status → Type 0
 Ran signs StepRendezvous before after ending =
-    Ends RvStep RvGivesUp (record { random = before.random }) (record { random = after.random }) before.streams after.streams ending
+    Ends RvStep RvGivesUp (rv_state before.random) (rv_state after.random) before.streams after.streams ending
     × (after.suite ≡ before.suite) × (ending ≡ status.Outside → Rises before.random.faults after.random.faults)
 Ran signs VoucherShow before after ending =
     TextEnds {S = Unit {0}} Shows Keeps tt tt before.streams after.streams ending × (after.suite ≡ before.suite) × (after.random ≡ before.random)

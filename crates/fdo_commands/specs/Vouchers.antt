@@ -13,7 +13,8 @@ use Rattle.voucher_tool.specs.Check.{check_told}
 use Rattle.voucher_tool.specs.Longer.{AsksFile, IsLonger, RefusesFile}
 use Rattle.voucher_tool.specs.Refusal.{refusal_text}
 use Rattle.voucher_tool.specs.Show.{show_text}
-use Rattle.fdo_commands.specs.Outside.{Keys, Signing, asking}
+use Rattle.suite_port.specs.Keys.{Keys, asking}
+use Rattle.fdo_commands.specs.Outside.{Signing}
 use Rattle.fdo_commands.specs.declared.texts.Told.{Told}
 use Rattle.fdo_commands.specs.declared.texts.Told.TheVariants as told
 

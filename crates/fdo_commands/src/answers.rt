@@ -1,4 +1,5 @@
 ghost use Rattle.std.specs.Prelude.{◌≡◌, IfOk, drop};
+ghost use Rattle.fdo_ports.specs.Stream.{OnlyWritten, stream};
 ghost use Rattle.fdo_commands.specs.Answering.{AnswersAll, AnswersOne, StopCounts, blamed as blamed_by, rank as rank_of, sooner as sooner_of};
 ghost use Rattle.fdo_commands.specs.Line.{answer_line, packet_line, token_word};
 
@@ -29,8 +30,7 @@ pub(crate) fn answer_all<H: Handler, O: Sink>(
     ensures faults { StopCounts (O.Channel.write_faults output.old) (O.Channel.write_faults output.new) result }
     ensures ready { H.ready handler.new }
     ensures objects { H.objects handler.new ≡ H.objects handler.old }
-    ensures same_left { O.Channel.left output.new ≡ O.Channel.left output.old }
-    ensures same_read_faults { O.Channel.read_faults output.new ≡ O.Channel.read_faults output.old }
+    ensures output { OnlyWritten (stream O.Channel output.old) (stream O.Channel output.new) }
 {
     let mut fault = None;
     for packet in packets {
@@ -84,8 +84,7 @@ fn answer_one<H: Handler, O: Sink>(
     ensures faults { StopCounts (O.Channel.write_faults output.old) (O.Channel.write_faults output.new) result }
     ensures ready { H.ready handler.new }
     ensures objects { H.objects handler.new ≡ H.objects handler.old }
-    ensures same_left { O.Channel.left output.new ≡ O.Channel.left output.old }
-    ensures same_read_faults { O.Channel.read_faults output.new ≡ O.Channel.read_faults output.old }
+    ensures output { OnlyWritten (stream O.Channel output.old) (stream O.Channel output.new) }
 {
     let Ok(answer) = handler.on(alloc, packet) else {
         return Err(Stop::NoMemory);

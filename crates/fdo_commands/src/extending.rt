@@ -1,7 +1,9 @@
 ghost use Rattle.std.specs.Prelude.{◌≡◌, MatchResult};
+ghost use Rattle.suite_port.specs.Keys.{keys};
+ghost use Rattle.fdo_ports.specs.Stream.{OnlyRead, OnlyWritten, stream};
 ghost use Rattle.fdo_commands.specs.Ending.{streams};
 ghost use Rattle.fdo_commands.specs.Extending.{ExtendEnds, Unloaded};
-ghost use Rattle.fdo_commands.specs.Outside.{keys, signing};
+ghost use Rattle.fdo_commands.specs.Outside.{signing};
 ghost use Rattle.fdo_commands.specs.Texts.{TextEnds};
 ghost use Rattle.fdo_commands.specs.Vouchers.{Extends, ExtendsFront};
 
@@ -28,16 +30,12 @@ pub(crate) fn voucher_extend<I: Source, O: Sink, S: Suite>(
     suite: &mut S,
 ) -> Status
     ensures ends { ExtendEnds (signing S.Verifier.verifies S.Signer.algorithm S.Signer.loads) next.now private.now
-        (keys (S.Holder.held suite.old) (S.Holder.faults suite.old) (S.Holder.asked suite.old))
-        (keys (S.Holder.held suite.new) (S.Holder.faults suite.new) (S.Holder.asked suite.new))
-        (streams (I.Channel.left input.old) (I.Channel.read_faults input.old)
-        (O.Channel.written output.old) (O.Channel.write_faults output.old))
-        (streams (I.Channel.left input.new) (I.Channel.read_faults input.new)
-        (O.Channel.written output.new) (O.Channel.write_faults output.new)) result }
-    ensures input_written { I.Channel.written input.new ≡ I.Channel.written input.old }
-    ensures input_write_faults { I.Channel.write_faults input.new ≡ I.Channel.write_faults input.old }
-    ensures output_left { O.Channel.left output.new ≡ O.Channel.left output.old }
-    ensures output_read_faults { O.Channel.read_faults output.new ≡ O.Channel.read_faults output.old }
+        (keys S.Holder suite.old)
+        (keys S.Holder suite.new)
+        (streams I.Channel input.old O.Channel output.old)
+        (streams I.Channel input.new O.Channel output.new) result }
+    ensures input { OnlyRead (stream I.Channel input.old) (stream I.Channel input.new) }
+    ensures output { OnlyWritten (stream O.Channel output.old) (stream O.Channel output.new) }
 {
     match suite.load(alloc, private) {
         Ok(_key) => extend_input(alloc, next, input, output, suite),
@@ -49,8 +47,7 @@ pub(crate) fn voucher_extend<I: Source, O: Sink, S: Suite>(
 fn end_unloaded<O: Sink>(output: &mut O, fault: SuiteFault) -> Status
     ensures unloaded { Unloaded fault (O.Channel.written output.old) (O.Channel.write_faults output.old)
         (O.Channel.written output.new) (O.Channel.write_faults output.new) result }
-    ensures same_left { O.Channel.left output.new ≡ O.Channel.left output.old }
-    ensures same_read_faults { O.Channel.read_faults output.new ≡ O.Channel.read_faults output.old }
+    ensures output { OnlyWritten (stream O.Channel output.old) (stream O.Channel output.new) }
 {
     match fault {
         SuiteFault::NoAlgorithm => {
@@ -73,16 +70,12 @@ fn extend_input<I: Source, O: Sink, S: Suite>(
     suite: &mut S,
 ) -> Status
     ensures ends { TextEnds (Extends (signing S.Verifier.verifies S.Signer.algorithm S.Signer.loads) next.now) ExtendsFront
-        (keys (S.Holder.held suite.old) (S.Holder.faults suite.old) (S.Holder.asked suite.old))
-        (keys (S.Holder.held suite.new) (S.Holder.faults suite.new) (S.Holder.asked suite.new))
-        (streams (I.Channel.left input.old) (I.Channel.read_faults input.old)
-        (O.Channel.written output.old) (O.Channel.write_faults output.old))
-        (streams (I.Channel.left input.new) (I.Channel.read_faults input.new)
-        (O.Channel.written output.new) (O.Channel.write_faults output.new)) result }
-    ensures input_written { I.Channel.written input.new ≡ I.Channel.written input.old }
-    ensures input_write_faults { I.Channel.write_faults input.new ≡ I.Channel.write_faults input.old }
-    ensures output_left { O.Channel.left output.new ≡ O.Channel.left output.old }
-    ensures output_read_faults { O.Channel.read_faults output.new ≡ O.Channel.read_faults output.old }
+        (keys S.Holder suite.old)
+        (keys S.Holder suite.new)
+        (streams I.Channel input.old O.Channel output.old)
+        (streams I.Channel input.new O.Channel output.new) result }
+    ensures input { OnlyRead (stream I.Channel input.old) (stream I.Channel input.new) }
+    ensures output { OnlyWritten (stream O.Channel output.old) (stream O.Channel output.new) }
 {
     match read_input(alloc, input) {
         Ok(bytes) => {
@@ -101,10 +94,10 @@ fn extend_bytes<S: Suite>(
 ) -> Result<Told, NoMemory>
     ensures { MatchResult result
         (λ what. Extends (signing S.Verifier.verifies S.Signer.algorithm S.Signer.loads) next.now
-        (keys (S.Holder.held suite.old) (S.Holder.faults suite.old) (S.Holder.asked suite.old)) bytes.now what
-        (keys (S.Holder.held suite.new) (S.Holder.faults suite.new) (S.Holder.asked suite.new)))
-        (λ _. ExtendsFront (keys (S.Holder.held suite.old) (S.Holder.faults suite.old) (S.Holder.asked suite.old)) bytes.now
-        (keys (S.Holder.held suite.new) (S.Holder.faults suite.new) (S.Holder.asked suite.new))) }
+        (keys S.Holder suite.old) bytes.now what
+        (keys S.Holder suite.new))
+        (λ _. ExtendsFront (keys S.Holder suite.old) bytes.now
+        (keys S.Holder suite.new)) }
 {
     match extend_file(alloc, suite, bytes, next) {
         Ok(longer) => Ok(Told::Text(longer)),

@@ -1,4 +1,5 @@
 ghost use Rattle.std.specs.Prelude.{◌≡◌, ◌≤◌, ◌++◌, length, codes};
+ghost use Rattle.fdo_ports.specs.Stream.{OnlyWritten, stream};
 ghost use Rattle.fdo_commands.specs.Answering.{fault_line as line_of};
 ghost use Rattle.fdo_commands.specs.Ending.{EndsWith, wrong_input};
 
@@ -12,8 +13,7 @@ use itoa::Buffer;
 pub(crate) fn end_with<O: Sink>(output: &mut O, line: &[u8])
     ensures line { EndsWith (O.Channel.written output.old) (O.Channel.write_faults output.old)
         (O.Channel.written output.new) (O.Channel.write_faults output.new) line.now }
-    ensures same_left { O.Channel.left output.new ≡ O.Channel.left output.old }
-    ensures same_read_faults { O.Channel.read_faults output.new ≡ O.Channel.read_faults output.old }
+    ensures output { OnlyWritten (stream O.Channel output.old) (stream O.Channel output.new) }
 {
     let _ = write_all(output, line);
 }
@@ -22,8 +22,7 @@ pub(crate) fn end_with<O: Sink>(output: &mut O, line: &[u8])
 pub(crate) fn end_with_place<O: Sink>(output: &mut O, place: usize)
     ensures line { EndsWith (O.Channel.written output.old) (O.Channel.write_faults output.old)
         (O.Channel.written output.new) (O.Channel.write_faults output.new) (wrong_input place) }
-    ensures same_left { O.Channel.left output.new ≡ O.Channel.left output.old }
-    ensures same_read_faults { O.Channel.read_faults output.new ≡ O.Channel.read_faults output.old }
+    ensures output { OnlyWritten (stream O.Channel output.old) (stream O.Channel output.new) }
 {
     let mut number = Buffer::new();
     let line = wrong_input_line(number.format(place));

@@ -1,4 +1,5 @@
 ghost use Rattle.std.specs.Prelude.{◌≡◌};
+ghost use Rattle.fdo_ports.specs.Stream.{OnlyRead, stream};
 ghost use Rattle.fdo_commands.specs.Stream.{ReadsInput, InputCounts};
 
 use fdo_ports::Source;
@@ -22,8 +23,7 @@ pub(crate) enum InputFault {
 pub(crate) fn read_input<I: Source>(alloc: Global, input: &mut I) -> Result<Vec<u8>, InputFault>
     ensures bytes { ReadsInput (I.Channel.left input.old) (I.Channel.left input.new) result }
     ensures faults { InputCounts (I.Channel.read_faults input.old) (I.Channel.read_faults input.new) result }
-    ensures same_written { I.Channel.written input.new ≡ I.Channel.written input.old }
-    ensures same_write_faults { I.Channel.write_faults input.new ≡ I.Channel.write_faults input.old }
+    ensures input { OnlyRead (stream I.Channel input.old) (stream I.Channel input.new) }
 {
     let mut all = Vec::new(alloc);
     let mut buffer = [0; 16384];

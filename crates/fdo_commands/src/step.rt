@@ -1,4 +1,5 @@
 ghost use Rattle.std.specs.Prelude.{◌≡◌};
+ghost use Rattle.fdo_ports.specs.Stream.{OnlyRead, OnlyWritten, stream};
 ghost use Rattle.fdo_commands.specs.Ending.{AnswersBytes, Ends, streams};
 
 use crate::answers::{Stop, answer_all};
@@ -20,16 +21,12 @@ pub(crate) fn step<H: Handler, I: Source, O: Sink>(
 ) -> Status
     requires { H.ready handler.old }
     ensures ends { Ends H.Steps H.GivesUp (H.state handler.old) (H.state handler.new)
-        (streams (I.Channel.left input.old) (I.Channel.read_faults input.old)
-        (O.Channel.written output.old) (O.Channel.write_faults output.old))
-        (streams (I.Channel.left input.new) (I.Channel.read_faults input.new)
-        (O.Channel.written output.new) (O.Channel.write_faults output.new)) result }
+        (streams I.Channel input.old O.Channel output.old)
+        (streams I.Channel input.new O.Channel output.new) result }
     ensures ready { H.ready handler.new }
     ensures objects { H.objects handler.new ≡ H.objects handler.old }
-    ensures input_written { I.Channel.written input.new ≡ I.Channel.written input.old }
-    ensures input_write_faults { I.Channel.write_faults input.new ≡ I.Channel.write_faults input.old }
-    ensures output_left { O.Channel.left output.new ≡ O.Channel.left output.old }
-    ensures output_read_faults { O.Channel.read_faults output.new ≡ O.Channel.read_faults output.old }
+    ensures input { OnlyRead (stream I.Channel input.old) (stream I.Channel input.new) }
+    ensures output { OnlyWritten (stream O.Channel output.old) (stream O.Channel output.new) }
 {
     match read_input(alloc, input) {
         Ok(bytes) => answer_bytes(alloc, handler, bytes.as_slice(), output),
@@ -50,8 +47,7 @@ fn answer_bytes<H: Handler, O: Sink>(
         (O.Channel.written output.new) (O.Channel.write_faults output.new) result }
     ensures ready { H.ready handler.new }
     ensures objects { H.objects handler.new ≡ H.objects handler.old }
-    ensures same_left { O.Channel.left output.new ≡ O.Channel.left output.old }
-    ensures same_read_faults { O.Channel.read_faults output.new ≡ O.Channel.read_faults output.old }
+    ensures output { OnlyWritten (stream O.Channel output.old) (stream O.Channel output.new) }
 {
     let packets = match read_lines(alloc, bytes) {
         Ok(packets) => packets,

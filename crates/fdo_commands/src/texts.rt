@@ -1,4 +1,5 @@
 ghost use Rattle.std.specs.Prelude.{◌≡◌};
+ghost use Rattle.fdo_ports.specs.Stream.{OnlyWritten, stream};
 ghost use Rattle.fdo_commands.specs.Texts.{InputFails, WritesFound, WritesTold};
 
 use crate::fault_line::{end_with, end_with_place};
@@ -22,8 +23,7 @@ pub(crate) enum Told {
 pub(crate) fn end_found<O: Sink>(output: &mut O, found: Result<Told, NoMemory>) -> Status
     ensures found { WritesFound found (O.Channel.written output.old) (O.Channel.write_faults output.old)
         (O.Channel.written output.new) (O.Channel.write_faults output.new) result }
-    ensures same_left { O.Channel.left output.new ≡ O.Channel.left output.old }
-    ensures same_read_faults { O.Channel.read_faults output.new ≡ O.Channel.read_faults output.old }
+    ensures output { OnlyWritten (stream O.Channel output.old) (stream O.Channel output.new) }
 {
     match found {
         Ok(told) => end_told(output, told),
@@ -34,8 +34,7 @@ pub(crate) fn end_found<O: Sink>(output: &mut O, found: Result<Told, NoMemory>) 
 fn end_told<O: Sink>(output: &mut O, told: Told) -> Status
     ensures told { WritesTold told (O.Channel.written output.old) (O.Channel.write_faults output.old)
         (O.Channel.written output.new) (O.Channel.write_faults output.new) result }
-    ensures same_left { O.Channel.left output.new ≡ O.Channel.left output.old }
-    ensures same_read_faults { O.Channel.read_faults output.new ≡ O.Channel.read_faults output.old }
+    ensures output { OnlyWritten (stream O.Channel output.old) (stream O.Channel output.new) }
 {
     match told {
         Told::Text(text) => match write_all(output, text.as_list()) {
@@ -57,8 +56,7 @@ fn end_told<O: Sink>(output: &mut O, told: Told) -> Status
 pub(crate) fn end_unread<O: Sink>(output: &mut O, fault: InputFault) -> Status
     ensures fails { InputFails fault (O.Channel.written output.old) (O.Channel.write_faults output.old)
         (O.Channel.written output.new) (O.Channel.write_faults output.new) result }
-    ensures same_left { O.Channel.left output.new ≡ O.Channel.left output.old }
-    ensures same_read_faults { O.Channel.read_faults output.new ≡ O.Channel.read_faults output.old }
+    ensures output { OnlyWritten (stream O.Channel output.old) (stream O.Channel output.new) }
 {
     match fault {
         InputFault::Read => {

@@ -1,4 +1,5 @@
 ghost use Rattle.std.specs.Prelude.{◌≡◌, ◌≢◌, ◌⊎◌, ℕ, List, true};
+ghost use Rattle.fdo_ports.specs.Stream.{OnlyRead, OnlyWritten, stream};
 ghost use Rattle.fdo_commands.specs.declared.command.Command.{Command};
 ghost use Rattle.fdo_commands.specs.declared.status.Status.TheVariants as status;
 ghost use Rattle.port_base.specs.Count.{Rises};
@@ -29,22 +30,14 @@ pub fn fdo<I: Source, O: Sink, S: Suite, N: Random>(
 ) -> Status
     // Words that name no command have their last line, and nothing else is done.
     ensures unnamed { ((command : Command) → Names words.now command → ⊥) → RanUnnamed words.now
-        (outside (I.Channel.left input.old) (I.Channel.read_faults input.old)
-        (O.Channel.written output.old) (O.Channel.write_faults output.old)
-        (S.Holder.held suite.old) (S.Holder.faults suite.old) (S.Holder.asked suite.old) (N.draws random.old) (N.faults random.old))
-        (outside (I.Channel.left input.new) (I.Channel.read_faults input.new)
-        (O.Channel.written output.new) (O.Channel.write_faults output.new)
-        (S.Holder.held suite.new) (S.Holder.faults suite.new) (S.Holder.asked suite.new) (N.draws random.new) (N.faults random.new)) result }
+        (outside I.Channel input.old O.Channel output.old S.Holder suite.old N.Random random.old)
+        (outside I.Channel input.new O.Channel output.new S.Holder suite.new N.Random random.new) result }
     // Else the command's private key is none of the suite's.
     ensures words { result ≡ status.Words → (command : Command) → Names words.now command → Unloadable S.Signer.loads command }
     // What the command did.
     ensures ran { (command : Command) → Names words.now command → Ran (signing S.Verifier.verifies S.Signer.algorithm S.Signer.loads) command
-        (outside (I.Channel.left input.old) (I.Channel.read_faults input.old)
-        (O.Channel.written output.old) (O.Channel.write_faults output.old)
-        (S.Holder.held suite.old) (S.Holder.faults suite.old) (S.Holder.asked suite.old) (N.draws random.old) (N.faults random.old))
-        (outside (I.Channel.left input.new) (I.Channel.read_faults input.new)
-        (O.Channel.written output.new) (O.Channel.write_faults output.new)
-        (S.Holder.held suite.new) (S.Holder.faults suite.new) (S.Holder.asked suite.new) (N.draws random.new) (N.faults random.new)) result }
+        (outside I.Channel input.old O.Channel output.old S.Holder suite.old N.Random random.old)
+        (outside I.Channel input.new O.Channel output.new S.Holder suite.new N.Random random.new) result }
     ensures done { result ≡ status.Done → (N.faults random.new ≡ N.faults random.old)
         × (S.Holder.faults suite.new ≡ S.Holder.faults suite.old)
         × (I.Channel.read_faults input.new ≡ I.Channel.read_faults input.old)
@@ -55,10 +48,8 @@ pub fn fdo<I: Source, O: Sink, S: Suite, N: Random>(
         ⊎ Rises (S.Holder.faults suite.old) (S.Holder.faults suite.new) }
     // The keys that the suite held are held still.
     ensures held { (key : List ℕ) → S.Holder.held suite.old key ≡ true → S.Holder.held suite.new key ≡ true }
-    ensures input_written { I.Channel.written input.new ≡ I.Channel.written input.old }
-    ensures input_write_faults { I.Channel.write_faults input.new ≡ I.Channel.write_faults input.old }
-    ensures output_left { O.Channel.left output.new ≡ O.Channel.left output.old }
-    ensures output_read_faults { O.Channel.read_faults output.new ≡ O.Channel.read_faults output.old }
+    ensures input { OnlyRead (stream I.Channel input.old) (stream I.Channel input.new) }
+    ensures output { OnlyWritten (stream O.Channel output.old) (stream O.Channel output.new) }
 {
     match Command::of(alloc, words) {
         Ok(Some(command)) => run(alloc, command, input, output, suite, random),
@@ -80,16 +71,10 @@ fn run<I: Source, O: Sink, S: Suite, N: Random>(
     random: &mut N,
 ) -> Status
     ensures ran { Ran (signing S.Verifier.verifies S.Signer.algorithm S.Signer.loads) command
-        (outside (I.Channel.left input.old) (I.Channel.read_faults input.old)
-        (O.Channel.written output.old) (O.Channel.write_faults output.old)
-        (S.Holder.held suite.old) (S.Holder.faults suite.old) (S.Holder.asked suite.old) (N.draws random.old) (N.faults random.old))
-        (outside (I.Channel.left input.new) (I.Channel.read_faults input.new)
-        (O.Channel.written output.new) (O.Channel.write_faults output.new)
-        (S.Holder.held suite.new) (S.Holder.faults suite.new) (S.Holder.asked suite.new) (N.draws random.new) (N.faults random.new)) result }
-    ensures input_written { I.Channel.written input.new ≡ I.Channel.written input.old }
-    ensures input_write_faults { I.Channel.write_faults input.new ≡ I.Channel.write_faults input.old }
-    ensures output_left { O.Channel.left output.new ≡ O.Channel.left output.old }
-    ensures output_read_faults { O.Channel.read_faults output.new ≡ O.Channel.read_faults output.old }
+        (outside I.Channel input.old O.Channel output.old S.Holder suite.old N.Random random.old)
+        (outside I.Channel input.new O.Channel output.new S.Holder suite.new N.Random random.new) result }
+    ensures input { OnlyRead (stream I.Channel input.old) (stream I.Channel input.new) }
+    ensures output { OnlyWritten (stream O.Channel output.old) (stream O.Channel output.new) }
 {
     match command {
         Command::StepRendezvous => step_rendezvous(alloc, input, output, random),
@@ -103,7 +88,7 @@ fn run<I: Source, O: Sink, S: Suite, N: Random>(
 
 ghost use Rattle.fdo_commands.specs.Ending.{Ends, streams};
 ghost use Rattle.fdo_ports.specs.Draw.{drawn};
-ghost use Rattle.rendezvous.specs.RvState.{RvGivesUp};
+ghost use Rattle.rendezvous.specs.RvState.{RvGivesUp, rv_state};
 ghost use Rattle.rendezvous.specs.RvStep.{RvStep};
 
 /// Answers messages, a line each, as the rendezvous server.
@@ -114,16 +99,12 @@ fn step_rendezvous<I: Source, O: Sink, N: Random>(
     random: &mut N,
 ) -> Status
     ensures ends { Ends RvStep RvGivesUp
-        (record { random = drawn (N.draws random.old) (N.faults random.old) })
-        (record { random = drawn (N.draws random.new) (N.faults random.new) })
-        (streams (I.Channel.left input.old) (I.Channel.read_faults input.old)
-        (O.Channel.written output.old) (O.Channel.write_faults output.old))
-        (streams (I.Channel.left input.new) (I.Channel.read_faults input.new)
-        (O.Channel.written output.new) (O.Channel.write_faults output.new)) result }
-    ensures input_written { I.Channel.written input.new ≡ I.Channel.written input.old }
-    ensures input_write_faults { I.Channel.write_faults input.new ≡ I.Channel.write_faults input.old }
-    ensures output_left { O.Channel.left output.new ≡ O.Channel.left output.old }
-    ensures output_read_faults { O.Channel.read_faults output.new ≡ O.Channel.read_faults output.old }
+        (rv_state (drawn N.Random random.old))
+        (rv_state (drawn N.Random random.new))
+        (streams I.Channel input.old O.Channel output.old)
+        (streams I.Channel input.new O.Channel output.new) result }
+    ensures input { OnlyRead (stream I.Channel input.old) (stream I.Channel input.new) }
+    ensures output { OnlyWritten (stream O.Channel output.old) (stream O.Channel output.new) }
 {
     let Ok(mut server) = Server::new(alloc) else {
         return Status::NoMemory;
@@ -148,17 +129,13 @@ fn step_handler<I: Source, O: Sink, N: Random>(
     output: &mut O,
 ) -> Status
     ensures ends { Ends RvStep RvGivesUp
-        (record { random = drawn (N.draws handler.old.random.now) (N.faults handler.old.random.now) })
-        (record { random = drawn (N.draws handler.new.random.now) (N.faults handler.new.random.now) })
-        (streams (I.Channel.left input.old) (I.Channel.read_faults input.old)
-        (O.Channel.written output.old) (O.Channel.write_faults output.old))
-        (streams (I.Channel.left input.new) (I.Channel.read_faults input.new)
-        (O.Channel.written output.new) (O.Channel.write_faults output.new)) result }
+        (rv_state (drawn N.Random handler.old.random.now))
+        (rv_state (drawn N.Random handler.new.random.now))
+        (streams I.Channel input.old O.Channel output.old)
+        (streams I.Channel input.new O.Channel output.new) result }
     ensures same_random { handler.new.random.ghost_name ≡ handler.old.random.ghost_name }
-    ensures input_written { I.Channel.written input.new ≡ I.Channel.written input.old }
-    ensures input_write_faults { I.Channel.write_faults input.new ≡ I.Channel.write_faults input.old }
-    ensures output_left { O.Channel.left output.new ≡ O.Channel.left output.old }
-    ensures output_read_faults { O.Channel.read_faults output.new ≡ O.Channel.read_faults output.old }
+    ensures input { OnlyRead (stream I.Channel input.old) (stream I.Channel input.new) }
+    ensures output { OnlyWritten (stream O.Channel output.old) (stream O.Channel output.new) }
 {
     step(alloc, handler, input, output)
 }

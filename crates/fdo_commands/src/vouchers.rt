@@ -1,8 +1,9 @@
 ghost use Rattle.std.specs.Prelude.{◌≡◌, ◌≤◌, ◌≢◌, ℕ, length, IfOk, MatchResult};
+ghost use Rattle.suite_port.specs.Keys.{keys};
+ghost use Rattle.fdo_ports.specs.Stream.{OnlyRead, OnlyWritten, stream};
 ghost use Rattle.port_base.specs.Told.{grown};
 ghost use Rattle.fdo_commands.specs.declared.texts.Told.TheVariants as told;
 ghost use Rattle.fdo_commands.specs.Ending.{streams};
-ghost use Rattle.fdo_commands.specs.Outside.{keys};
 ghost use Rattle.fdo_commands.specs.Texts.{TextEnds};
 ghost use Rattle.fdo_commands.specs.Vouchers.{Checks, ChecksFront, Keeps, Shows, asks_until, fault_place as place_of, refused_as, show_of, told_as};
 ghost use Rattle.voucher_chain.specs.Chain.{checkings, first_break};
@@ -29,14 +30,10 @@ pub(crate) fn voucher_show<I: Source, O: Sink>(
     output: &mut O,
 ) -> Status
     ensures ends { TextEnds {S = Unit {0}} Shows Keeps tt tt
-        (streams (I.Channel.left input.old) (I.Channel.read_faults input.old)
-        (O.Channel.written output.old) (O.Channel.write_faults output.old))
-        (streams (I.Channel.left input.new) (I.Channel.read_faults input.new)
-        (O.Channel.written output.new) (O.Channel.write_faults output.new)) result }
-    ensures input_written { I.Channel.written input.new ≡ I.Channel.written input.old }
-    ensures input_write_faults { I.Channel.write_faults input.new ≡ I.Channel.write_faults input.old }
-    ensures output_left { O.Channel.left output.new ≡ O.Channel.left output.old }
-    ensures output_read_faults { O.Channel.read_faults output.new ≡ O.Channel.read_faults output.old }
+        (streams I.Channel input.old O.Channel output.old)
+        (streams I.Channel input.new O.Channel output.new) result }
+    ensures input { OnlyRead (stream I.Channel input.old) (stream I.Channel input.new) }
+    ensures output { OnlyWritten (stream O.Channel output.old) (stream O.Channel output.new) }
 {
     match read_input(alloc, input) {
         Ok(bytes) => end_found(output, show_bytes(alloc, bytes.as_slice())),
@@ -52,16 +49,12 @@ pub(crate) fn voucher_check<I: Source, O: Sink, S: Suite>(
     suite: &mut S,
 ) -> Status
     ensures ends { TextEnds (Checks S.Verifier.verifies) ChecksFront
-        (keys (S.Holder.held suite.old) (S.Holder.faults suite.old) (S.Holder.asked suite.old))
-        (keys (S.Holder.held suite.new) (S.Holder.faults suite.new) (S.Holder.asked suite.new))
-        (streams (I.Channel.left input.old) (I.Channel.read_faults input.old)
-        (O.Channel.written output.old) (O.Channel.write_faults output.old))
-        (streams (I.Channel.left input.new) (I.Channel.read_faults input.new)
-        (O.Channel.written output.new) (O.Channel.write_faults output.new)) result }
-    ensures input_written { I.Channel.written input.new ≡ I.Channel.written input.old }
-    ensures input_write_faults { I.Channel.write_faults input.new ≡ I.Channel.write_faults input.old }
-    ensures output_left { O.Channel.left output.new ≡ O.Channel.left output.old }
-    ensures output_read_faults { O.Channel.read_faults output.new ≡ O.Channel.read_faults output.old }
+        (keys S.Holder suite.old)
+        (keys S.Holder suite.new)
+        (streams I.Channel input.old O.Channel output.old)
+        (streams I.Channel input.new O.Channel output.new) result }
+    ensures input { OnlyRead (stream I.Channel input.old) (stream I.Channel input.new) }
+    ensures output { OnlyWritten (stream O.Channel output.old) (stream O.Channel output.new) }
 {
     match read_input(alloc, input) {
         Ok(bytes) => {
@@ -101,11 +94,11 @@ fn not_shown(fault: ChainFault) -> Result<Told, NoMemory>
 fn check_bytes<S: Suite>(alloc: Global, suite: &mut S, bytes: &[u8]) -> Result<Told, NoMemory>
     ensures { MatchResult result
         (λ what. Checks S.Verifier.verifies
-        (keys (S.Holder.held suite.old) (S.Holder.faults suite.old) (S.Holder.asked suite.old)) bytes.now what
-        (keys (S.Holder.held suite.new) (S.Holder.faults suite.new) (S.Holder.asked suite.new)))
+        (keys S.Holder suite.old) bytes.now what
+        (keys S.Holder suite.new))
         (λ _. ChecksFront
-        (keys (S.Holder.held suite.old) (S.Holder.faults suite.old) (S.Holder.asked suite.old)) bytes.now
-        (keys (S.Holder.held suite.new) (S.Holder.faults suite.new) (S.Holder.asked suite.new))) }
+        (keys S.Holder suite.old) bytes.now
+        (keys S.Holder suite.new)) }
 {
     match read_voucher(alloc, bytes) {
         Ok(voucher) => checked(alloc, suite, &voucher),

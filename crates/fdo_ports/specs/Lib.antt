@@ -2,3 +2,4 @@ pub mod Count
 pub mod Told
 pub mod MemoryObjects
 pub mod Draw
+pub mod Stream

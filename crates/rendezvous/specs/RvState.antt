@@ -11,6 +11,9 @@ use Rattle.rendezvous.specs.declared.received.Received.TheVariants as received
 pub record RvState : Type 0 where
   pub random : Drawn
 
+abbrev pub rv_state : Drawn → RvState
+rv_state random = record { random = random }
+
 -- behind the nonce's draw the token's, and none where the nonce's failed
 abbrev pub DrawsToken : Result (List ℕ) Failed → Drawn → Drawn → Type 0
 DrawsToken (Ok _) between after = (token : Result (List ℕ) Failed) × Draws between token after

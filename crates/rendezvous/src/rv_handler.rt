@@ -13,12 +13,12 @@ pub struct RvHandler<'a, N: Random> {
 impl<'a, N: Random> Handler for RvHandler<'a, N> {
     ghost use Rattle.std.specs.Prelude.{ℕ};
     ghost use Rattle.fdo_ports.specs.Draw.{drawn};
-    ghost use Rattle.rendezvous.specs.RvState.{RvState, RvGivesUp};
+    ghost use Rattle.rendezvous.specs.RvState.{RvState, RvGivesUp, rv_state};
     ghost use Rattle.rendezvous.specs.RvStep.{RvStep};
 
     ghost State = { RvState };
 
-    ghost state = { λ h. record { random = drawn (N.draws h.random.now) (N.faults h.random.now) } };
+    ghost state = { λ h. rv_state (drawn N.Random h.random.now) };
 
     ghost objects = { λ h. h.random.ghost_name };
 

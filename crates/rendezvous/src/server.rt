@@ -1,6 +1,6 @@
 ghost use Rattle.std.specs.Prelude.{◌≡◌, IfOk, OnErr};
 ghost use Rattle.fdo_ports.specs.Draw.{drawn};
-ghost use Rattle.rendezvous.specs.RvState.{RvGivesUp, DrawsHello, DrawsToken};
+ghost use Rattle.rendezvous.specs.RvState.{RvGivesUp, DrawsHello, DrawsToken, rv_state};
 ghost use Rattle.rendezvous.specs.RvStep.{RvStep, HelloStep, NonceStep};
 
 use crate::received::Received;
@@ -27,8 +27,8 @@ impl Server {
         random: &mut N,
         packet: &Packet,
     ) -> Result<Answer, NoMemory>
-        ensures step { IfOk result (λ answer. RvStep (record { random = drawn (N.draws random.old) (N.faults random.old) }) packet.now answer (record { random = drawn (N.draws random.new) (N.faults random.new) })) }
-        ensures no_memory { OnErr result (RvGivesUp (record { random = drawn (N.draws random.old) (N.faults random.old) }) packet.now (record { random = drawn (N.draws random.new) (N.faults random.new) })) }
+        ensures step { IfOk result (λ answer. RvStep (rv_state (drawn N.Random random.old)) packet.now answer (rv_state (drawn N.Random random.new))) }
+        ensures no_memory { OnErr result (RvGivesUp (rv_state (drawn N.Random random.old)) packet.now (rv_state (drawn N.Random random.new))) }
     {
         match Received::of(alloc, packet)? {
             Received::PeerError => Ok(Answer::Ended),
@@ -40,8 +40,8 @@ impl Server {
 
 /// The answer to TO0.Hello.
 fn hello<N: Random>(alloc: Global, random: &mut N) -> Result<Answer, NoMemory>
-    ensures step { IfOk result (λ answer. HelloStep (drawn (N.draws random.old) (N.faults random.old)) answer (drawn (N.draws random.new) (N.faults random.new))) }
-    ensures no_memory { OnErr result (DrawsHello (drawn (N.draws random.old) (N.faults random.old)) (drawn (N.draws random.new) (N.faults random.new))) }
+    ensures step { IfOk result (λ answer. HelloStep (drawn N.Random random.old) answer (drawn N.Random random.new)) }
+    ensures no_memory { OnErr result (DrawsHello (drawn N.Random random.old) (drawn N.Random random.new)) }
 {
     let nonce = random.draw16();
     with_nonce(alloc, random, nonce)
@@ -53,8 +53,8 @@ fn with_nonce<N: Random>(
     random: &mut N,
     nonce: Result<[u8; 16], Failed>,
 ) -> Result<Answer, NoMemory>
-    ensures step { IfOk result (λ answer. NonceStep nonce (drawn (N.draws random.old) (N.faults random.old)) answer (drawn (N.draws random.new) (N.faults random.new))) }
-    ensures no_memory { OnErr result (DrawsToken nonce (drawn (N.draws random.old) (N.faults random.old)) (drawn (N.draws random.new) (N.faults random.new))) }
+    ensures step { IfOk result (λ answer. NonceStep nonce (drawn N.Random random.old) answer (drawn N.Random random.new)) }
+    ensures no_memory { OnErr result (DrawsToken nonce (drawn N.Random random.old) (drawn N.Random random.new)) }
 {
     let Ok(nonce) = nonce else {
         return refuse(alloc, Cause::Outside(Object::Random), 20, None);

@@ -9,3 +9,4 @@ pub mod LabAgreement
 pub mod LabSeal
 pub mod LabOpening
 pub mod Asked
+pub mod Keys

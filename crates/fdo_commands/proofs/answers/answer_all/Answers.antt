@@ -22,6 +22,6 @@ loop-packet-preserved g c =
       ready = c.in-Ok.ensures.ready;
       objects = c.in-Ok.ensures.objects ∙ c.loop-packet.invariant.objects;
       faults = c.in-Ok.ensures.faults ∙ c.loop-packet.invariant.faults;
-      left = c.in-Ok.ensures.same_left ∙ c.loop-packet.invariant.left;
-      reads = c.in-Ok.ensures.same_read_faults ∙ c.loop-packet.invariant.reads;
+      left = c.in-Ok.ensures.output.0 ∙ c.loop-packet.invariant.left;
+      reads = c.in-Ok.ensures.output.1 ∙ c.loop-packet.invariant.reads;
     }
