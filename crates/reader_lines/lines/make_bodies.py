@@ -1,5 +1,5 @@
 #!/usr/bin/env python3
-"""Prints lines `KIND INPUT: ANSWER` for the program `body_lines`, from a reader of its own.
+"""Prints lines `KIND INPUT: ANSWER` for the readers of bodies, from a reader of its own.
 
 KIND is a message type of FIDO Device Onboard 1.1 and INPUT a body in hexadecimal, `-` for none. ANSWER is `Ok HEX`,
 with the deterministic encoding (RFC 8949, section 4.2.1) of what the body says, or `Body` and the place of its first
@@ -14,11 +14,7 @@ An array of another length, and a map that lacks a label, have the place of thei
 that of its head. Any well-formed spelling is read. Types whose bodies are not read have the place 0.
 """
 
-import sys
-from pathlib import Path
-
-sys.path.insert(0, str(Path(__file__).resolve().parents[2] / "cbor_lines" / "lines"))
-from make import shortest
+from make_cbor import shortest
 
 
 class Fault(Exception):
@@ -504,7 +500,7 @@ def cases():
 
 
 def main():
-    print("# KIND INPUT (hex, - for none): read_body, Ok HEX with what write_body gives of the message. Made by make.py")
+    print("# KIND INPUT (hex, - for none): read_body, Ok HEX with what write_body gives of the message. Made by make_bodies.py")
     seen = set()
     for kind, body in sorted(cases(), key=lambda case: case[0]):
         if (kind, body) not in seen:

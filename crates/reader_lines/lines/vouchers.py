@@ -12,8 +12,8 @@ KIND is sign1, mac0, encrypt0, header, entry or voucher. What is printed is the 
             and then the envelope as it is written anew; for a voucher the number of its entries; for a header or an
             entry nothing more.
 
-The first fault is, as in make.py, the CBOR's own first one, else the least offset of a part that is not of its form,
-else the first byte after the item. What else is told here:
+The first fault is, as in make_bodies.py, the CBOR's own first one, else the least offset of a part that is not of its
+form, else the first byte after the item. What else is told here:
 
   - A byte string that holds an item (the protected bytes, the payload of an entry, the header of a voucher) is read as
     an input of its own, with 16 levels of depth, to its end. A fault in it has the place of the string's head, of the
@@ -25,21 +25,11 @@ else the first byte after the item. What else is told here:
   - In a voucher an item at depth 16, counted from the voucher, is not of its form.
 """
 
-import importlib.util
 import sys
-from pathlib import Path
 from types import SimpleNamespace
 
+import make_bodies as make
 
-def load(path):
-    """A Python file as a module of its own name, as several of the files here are called make.py."""
-    spec = importlib.util.spec_from_file_location("_".join(path.parts[-3:-1]), path)
-    module = importlib.util.module_from_spec(spec)
-    spec.loader.exec_module(module)
-    return module
-
-
-make = load(Path(__file__).resolve().parents[2] / "body_lines" / "lines" / "make.py")
 Fault, encode, known, of = make.Fault, make.encode, make.known, make.of
 parts_of, row, shortest, string = make.parts_of, make.row, make.shortest, make.string
 

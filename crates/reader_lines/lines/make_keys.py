@@ -1,11 +1,11 @@
 #!/usr/bin/env python3
 """What the readers of keys, hashes and signature information have to answer, written from the rules alone.
 
-    reference.py          prints the lines of own.txt
-    reference.py FILE     compares the lines of FILE with what it computes, and ends with 1 where one differs
+    make_keys.py          prints the lines of keys.txt
+    make_keys.py FILE     compares those of FILE with what it computes, and ends with 1 where one differs
 
-A line is `ITEM: key: hash: signature information`, each `Ok HEX` with the deterministic spelling of what was read, or
-the fault. ITEM is the item at the front of its bytes. Lines that begin with # are no cases.
+A line is `key ITEM: key: hash: signature information`, each of the three `Ok HEX` with the deterministic spelling of what
+was read, or the fault. ITEM is the item at the front of its bytes.
 
 The rules (FIDO Device Onboard 1.1, "Public Key", "Hash / HMac" and "SigInfo"; RFC 9052, section 7; RFC 9053, section
 7.1; RFC 8949, section 4.2.1):
@@ -18,10 +18,8 @@ The rules (FIDO Device Onboard 1.1, "Public Key", "Hash / HMac" and "SigInfo"; R
 - Signature information is [number, bytes].
 """
 import sys
-from pathlib import Path
 
-sys.path.insert(0, str(Path(__file__).resolve().parents[2] / 'cbor_lines' / 'lines'))
-from make import shortest as head
+from make_cbor import shortest as head
 
 # An item is (name, value): uint, nint (the n of -1 - n), bytes, text, array, map (pairs), tag (number, item), simple.
 
@@ -163,7 +161,8 @@ def answer(read, item):
 
 def line(data):
     item, _ = parse(data)
-    return '%s: %s: %s: %s' % (data.hex(), answer(read_key, item), answer(read_hash, item), answer(read_sig_info, item))
+    answers = [answer(read, item) for read in (read_key, read_hash, read_sig_info)]
+    return ': '.join(['key ' + data.hex()] + answers)
 
 
 def b(n, byte=0x11):
@@ -249,7 +248,7 @@ def spellings():
 
 
 def lines():
-    yield '# ITEM (hex): read_key: read_hash: read_sig_info. Ok HEX: the deterministic spelling of what was read'
+    yield '# key ITEM (hex): read_key: read_hash: read_sig_info. Ok HEX: the deterministic spelling of what was read'
     seen = set()
     for case in list(cases()) + list(spellings()):
         if isinstance(case, str):
@@ -267,8 +266,8 @@ def main(words):
         return 0
     differ = 0
     for text in open(words[0]).read().splitlines():
-        if text and not text.startswith('#'):
-            wanted = line(bytes.fromhex(text.split(':')[0]))
+        if text.startswith('key '):
+            wanted = line(bytes.fromhex(text.split(':')[0].split()[1]))
             if text != wanted:
                 differ += 1
                 print('wanted', wanted, '\nfound ', text)

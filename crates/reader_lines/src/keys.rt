@@ -1,8 +1,3 @@
-//! Reads lines `ITEM: ..` with the bytes of an item in hexadecimal, and prints of each what `read_key`, `read_hash` and
-//! `read_sig_info` answer: `Ok HEX`, with the deterministic spelling of what was read, or the fault. A line that begins
-//! with `#` is printed as it is.
-#![tactic(auto)]
-
 use cbor_core::{Blob, Item, NoMemory, read_wire, write_det};
 use key_codec::{
     KeyFault, hash_item, key_bytes, read_hash, read_key, read_sig_info, sig_info_item,
@@ -10,32 +5,16 @@ use key_codec::{
 use std::alloc::Global;
 use std::io;
 
-fn main(rt: HostRuntime) -> io::Result<()> {
-    for line in rt.lines(rt.alloc()) {
-        let line = line?;
-        let line = line.as_str();
-        if line.starts_with('#') {
-            println!(rt; "{line}")?;
-            continue;
-        }
-        let input = match line.split_once(':') {
-            Some((input, _)) => input,
-            None => line,
-        };
-        let Ok(bytes) = hex::decode(rt.alloc(), input) else {
-            println!(rt; "{input}: no bytes")?;
-            continue;
-        };
-        let Ok((item, _taken)) = read_wire(rt.alloc(), bytes.as_slice()) else {
-            println!(rt; "{input}: no item")?;
-            continue;
-        };
-        let key = text(rt.alloc(), key_answer(rt.alloc(), &item))?;
-        let hash = text(rt.alloc(), hash_answer(rt.alloc(), &item))?;
-        let sig = text(rt.alloc(), sig_answer(rt.alloc(), &item))?;
-        println!(rt; "{input}: {key}: {hash}: {sig}")?;
-    }
-    Ok(())
+/// What `read_key`, `read_hash` and `read_sig_info` answer to the item that the bytes begin with: `Ok HEX`, with the
+/// deterministic spelling of what was read, or the fault.
+pub fn answer(alloc: Global, bytes: &[u8]) -> io::Result<String> {
+    let Ok((item, _taken)) = read_wire(alloc, bytes) else {
+        return Ok(format!(in alloc; "no item")?);
+    };
+    let key = said(alloc, key_answer(alloc, &item))?;
+    let hash = said(alloc, hash_answer(alloc, &item))?;
+    let sig = said(alloc, sig_answer(alloc, &item))?;
+    Ok(format!(in alloc; "{key}: {hash}: {sig}")?)
 }
 
 fn key_answer(alloc: Global, item: &Item) -> Result<Blob, KeyFault> {
@@ -57,7 +36,7 @@ fn spelled(alloc: Global, item: Result<Item, NoMemory>) -> Result<Blob, NoMemory
     write_det(alloc, &item?)
 }
 
-fn text(alloc: Global, answer: Result<Blob, KeyFault>) -> io::Result<String> {
+fn said(alloc: Global, answer: Result<Blob, KeyFault>) -> io::Result<String> {
     let text = match answer {
         Ok(blob) => {
             let spelling = hex::encode(alloc, blob.as_list())?;

@@ -1,5 +1,5 @@
 #!/usr/bin/env python3
-"""Prints lines `INPUT: WIRE: DET` for the program `cbor_lines`, from a reader of its own.
+"""Prints lines `cbor INPUT: WIRE: DET`, from a reader of its own.
 
 INPUT is bytes in hexadecimal, `-` for none. WIRE is the answer of reading any well-formed spelling of a CBOR data item
 (RFC 8949, section 3), DET that of reading its core deterministic encoding alone (section 4.2.1): `Ok N HEX`, with the
@@ -473,14 +473,14 @@ def mixed(count):
 
 
 def main():
-    print("# Made by make.py. INPUT (hex, - for none): read_wire: read_det. "
+    print("# Made by make_cbor.py. cbor INPUT (hex, - for none): read_wire: read_det. "
           "Ok N HEX: N bytes taken, HEX the deterministic spelling of the item")
     known = set()
     for inputs in (cut_heads(), wrong_heads(), breaks(), widths(), keys(), inside_keys(), depths(), utf8(), simples(), mixed(180)):
         for data in inputs:
             if data not in known:
                 known.add(data)
-                print(f"{data.hex() or '-'}: {answer(data, False)}: {answer(data, True)}")
+                print(f"cbor {data.hex() or '-'}: {answer(data, False)}: {answer(data, True)}")
 
 
 if __name__ == "__main__":

@@ -355,7 +355,7 @@ def print_lines(kind, inputs, known):
 
 def main():
     print("# KIND INPUT (hex, - for none): ANSWER. place N: no such value, with the place of its first fault. toolong:")
-    print("# more than 255 entries. ok, and for a voucher the number of its entries. Made by voucher_lines.py")
+    print("# more than 255 entries. ok, and for a voucher the number of its entries. Made by make_vouchers.py")
     known = set()
     for comment, kind, group in GROUPS:
         print(f"# {comment}")

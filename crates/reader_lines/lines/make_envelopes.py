@@ -308,7 +308,7 @@ COUNTS = {"sign1": 600, "mac0": 400, "encrypt0": 500}
 def main():
     print("# KIND INPUT (hex, - for none): ANSWER. place N: no such envelope, with the place of its first fault.")
     print("# ok PROTECTED ALGORITHM PAYLOAD SIGNATURE WRITTEN for sign1, PAYLOAD TAG for mac0, IV SEALED for encrypt0.")
-    print("# Made by envelope_lines.py")
+    print("# Made by make_envelopes.py")
     known = set()
     for comment, group in GROUPS:
         print(f"# {comment}")
