@@ -1,13 +1,10 @@
-//! Times sealing and opening under the laboratory suite, and reading envelopes. Each argument is a number of bytes, of
-//! which a text and a payload have as many. Prints JSON lines.
-#![tactic(auto)]
-
 ghost use Rattle.std.specs.Prelude.{◌≤◌, length};
 
+use crate::timing::{report, report_thousandths, since};
 use cbor_core::{Blob, Pairs};
 use cose_envelopes::{open, read_encrypt0, read_sign1, seal, sign, write_sign1};
+use std::io;
 use std::time::Instant;
-use std::{env, io};
 use suite_port::{LabSuite, Signer};
 
 const SEALING: i64 = -65538;
@@ -16,11 +13,13 @@ const KEY: [u8; 32] = *b"0123456789abcdefFEDCBA9876543210";
 
 const IV: [u8; 12] = *b"twelve bytes";
 
-fn main(rt: HostRuntime) -> io::Result<()> {
-    for word in env::args(&rt)?.skip(1) {
+/// Times sealing and opening under the laboratory suite, and reading envelopes. Each word is a number of bytes, of which
+/// a text and a payload have as many.
+pub fn measure(rt: &HostRuntime, words: &[String]) -> io::Result<()> {
+    for word in words {
         if let Ok(size) = word.parse::<u32>() {
             let text = vec![in rt.alloc(); 0u8; size as usize]?;
-            time_all(&rt, text.as_slice())?;
+            time_all(rt, text.as_slice())?;
         }
     }
     Ok(())
@@ -58,8 +57,8 @@ fn time_sealing(rt: &HostRuntime, text: &[u8]) -> io::Result<()>
             opening = opening.min(time);
         }
     }
-    report(rt, "seal", text.len(), sealing)?;
-    report(rt, "open", text.len(), opening)
+    report_all(rt, "seal", text.len(), sealing)?;
+    report_all(rt, "open", text.len(), opening)
 }
 
 /// Reading an Encrypt0 of a text, the least of eight times a hundred calls.
@@ -82,7 +81,7 @@ fn time_encrypt0(rt: &HostRuntime, text: &[u8]) -> io::Result<()>
         let time = since(rt, start)?;
         best = best.min(time / all.max(1));
     }
-    report(rt, "read_encrypt0", text.len(), best)
+    report_all(rt, "read_encrypt0", text.len(), best)
 }
 
 /// Reading a Sign1 over a payload, the least of eight times a hundred calls.
@@ -102,7 +101,7 @@ fn time_sign1(rt: &HostRuntime, payload: &[u8]) -> io::Result<()> {
         let time = since(rt, start)?;
         best = best.min(time / all.max(1));
     }
-    report(rt, "read_sign1", payload.len(), best)
+    report_all(rt, "read_sign1", payload.len(), best)
 }
 
 /// The written Sign1 over a payload, or none where a call failed.
@@ -124,21 +123,10 @@ fn signed(rt: &HostRuntime, payload: &[u8]) -> Result<Blob, ()> {
     }
 }
 
-/// Nanoseconds since then.
-fn since(rt: &HostRuntime, start: Instant) -> io::Result<u64> {
-    Ok(u64::try_from(start.elapsed(rt)?.as_nanos()).unwrap_or(u64::MAX))
-}
-
 /// Two lines: the nanoseconds of a call, and the megabytes of a second.
-fn report(rt: &HostRuntime, name: &str, size: usize, time: u64) -> io::Result<()> {
+fn report_all(rt: &HostRuntime, name: &str, size: usize, time: u64) -> io::Result<()> {
+    let what = format!(in rt.alloc(); "cose/{name}/{size} B")?;
     let rate = (size as u64).saturating_mul(1_000_000) / time.max(1);
-    println!(rt;
-        "{{\"what\":\"cose/{name}/{size} B\",\"peer\":\"project\",\"value\":{time},\"unit\":\"ns\"}}"
-    )?;
-    println!(rt;
-        "{{\"what\":\"cose/{name}/{size} B\",\"peer\":\"project\",\"value\":{}.{:03},\"unit\":\"MB/s\"}}",
-        rate / 1000,
-        rate % 1000
-    )?;
-    Ok(())
+    report(rt, what.as_str(), time, "ns")?;
+    report_thousandths(rt, what.as_str(), rate, "MB/s")
 }

@@ -1,4 +1,4 @@
-use Rattle.cbor_bench.proofs.timing.+walk.Given as goal
+use Rattle.measures.proofs.cbor.+walk.Given as goal
 
 abbrev pub decreases-walk : goal.decreases-walk
 decreases-walk l = l.levels
