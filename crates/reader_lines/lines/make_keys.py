@@ -2,7 +2,7 @@
 """What the readers of keys, hashes and signature information have to answer, written from the rules alone.
 
     make_keys.py          prints the lines of keys.txt
-    make_keys.py FILE     compares those of FILE with what it computes, and ends with 1 where one differs
+    make_keys.py FILE     compares those of FILE, which may lack the word key, and ends with 1 where one differs
 
 A line is `key ITEM: key: hash: signature information`, each of the three `Ok HEX` with the deterministic spelling of what
 was read, or the fault. ITEM is the item at the front of its bytes.
@@ -266,9 +266,10 @@ def main(words):
         return 0
     differ = 0
     for text in open(words[0]).read().splitlines():
-        if text.startswith('key '):
-            wanted = line(bytes.fromhex(text.split(':')[0].split()[1]))
-            if text != wanted:
+        kind, _, item = text.split(':')[0].rpartition(' ')
+        if item and kind in ('', 'key') and not text.startswith('#'):
+            wanted = line(bytes.fromhex(item))
+            if wanted not in (text, 'key ' + text):
                 differ += 1
                 print('wanted', wanted, '\nfound ', text)
     return 1 if differ else 0
