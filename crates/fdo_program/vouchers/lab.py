@@ -12,7 +12,7 @@ import hmac as hmac_code
 import sys
 from pathlib import Path
 
-sys.path.insert(0, str(Path(__file__).resolve().parents[2] / "voucher_lines" / "lines"))
+sys.path.insert(0, str(Path(__file__).resolve().parents[2] / "reader_lines" / "lines"))
 from vouchers import make, of, row, shortest
 
 GUID = bytes(range(16))
