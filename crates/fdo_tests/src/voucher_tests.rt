@@ -212,7 +212,7 @@ static CASES: [Case; 31] = [
         Some([NEXT, ""]),
         None,
         256,
-        [1, 0, 0],
+        [1, 0, 1],
         b"fault words\n",
         Status::Words,
     ),

@@ -1,5 +1,7 @@
-ghost use Rattle.std.specs.Prelude.{◌≡◌, ◌++◌, ◌∷◌, ◌⊎◌, [], IfOk, IfErr};
+ghost use Rattle.std.specs.Prelude.{◌≡◌, ◌≢◌, ◌++◌, ◌∷◌, ◌⊎◌, ℕ, List, [], None, true, Err, IfOk, IfErr};
+ghost use Rattle.suite_port.specs.Answer.{Counts};
 ghost use Rattle.suite_port.specs.Asked.Ask.{Loaded, Signed};
+ghost use Rattle.suite_port.specs.declared.fault.SuiteFault.TheVariants.{NoAlgorithm};
 ghost use Rattle.suite_tests.specs.Telling.{asked_more, asks_of};
 
 use crate::telling_suite::Telling;
@@ -15,6 +17,8 @@ pub fn load_and_sign<S: Suite>(
     private: &[u8],
     text: &[u8],
 ) -> Result<(Vec<u8>, Vec<u8>), SuiteFault>
+    ensures known { S.Signer.loads private.now ≡ true → ((key : List ℕ) → S.Signer.algorithm key ≢ None) → result ≢ Err NoAlgorithm }
+    ensures faults { Counts (S.Holder.faults suite.old) (S.Holder.faults suite.new) result }
     ensures signed { IfOk result (λ r. S.Signer.signs r.0.items text.now r.1.items) }
     ensures asked { IfOk result (λ r. S.Holder.asked suite.new ≡ asked_more (S.Holder.asked suite.old) (Loaded private.now ∷ Signed r.0.items text.now ∷ [])) }
     ensures refused { IfErr result (λ _. (S.Holder.asked suite.new ≡ S.Holder.asked suite.old) ⊎ (S.Holder.asked suite.new ≡ asked_more (S.Holder.asked suite.old) (Loaded private.now ∷ []))) }
@@ -36,6 +40,8 @@ pub fn load_and_sign_told<S: Suite>(
     private: &[u8],
     text: &[u8],
 ) -> Result<(Vec<u8>, Vec<u8>), SuiteFault>
+    ensures known { S.Signer.loads private.now ≡ true → ((key : List ℕ) → S.Signer.algorithm key ≢ None) → result ≢ Err NoAlgorithm }
+    ensures faults { Counts (S.Holder.faults suite.old.suite) (S.Holder.faults suite.new.suite) result }
     ensures signed { IfOk result (λ r. S.Signer.signs r.0.items text.now r.1.items) }
     ensures asked { IfOk result (λ r. asks_of suite.new.calls.items ≡ asks_of suite.old.calls.items ++ Loaded private.now ∷ Signed r.0.items text.now ∷ []) }
     ensures refused { IfErr result (λ _. (asks_of suite.new.calls.items ≡ asks_of suite.old.calls.items) ⊎ (asks_of suite.new.calls.items ≡ asks_of suite.old.calls.items ++ Loaded private.now ∷ [])) }
