@@ -84,7 +84,7 @@ fn replaces(
     next: &PublicKey,
     wanted: &[u8],
 ) -> bool {
-    match replacement(rt.alloc(), header, &OTHER_GUID, rv, next) {
+    match replacement(rt.alloc(), header, OTHER_GUID, rv, next) {
         Ok(new) => {
             new.raw.as_list() == wanted && is_header(rt, wanted, b"\x83\x18\xc8\x00\x41\x02")
         }
