@@ -201,72 +201,39 @@ mod tests {
         Ok(())
     }
 
+    /// Whether the laboratory suite opens these bytes under one key, with these additional data.
+    fn is_opened(
+        rt: &HostRuntime,
+        suite: &mut LabSuite,
+        aad: &[u8],
+        sealed: &[u8],
+    ) -> Result<bool, SuiteFault> {
+        let opened = suite.open(rt.alloc(), -65538, b"0123456789abcdef", &IV, aad, sealed)?;
+        Ok(opened.is_some())
+    }
+
     #[test]
     fn what_is_not_opened(rt: HostRuntime) -> Result<(), Fail> {
         let mut suite = LabSuite::new(Vec::new(rt.alloc()));
-        let key = *b"0123456789abcdef";
-        let mut sealed = suite.seal(
-            rt.alloc(),
-            -65538,
-            key.as_slice(),
-            &IV,
-            b"aad",
-            b"a text of some length",
-        )?;
+        let key = b"0123456789abcdef";
+        let plain = b"a text of some length";
+        let mut sealed = suite.seal(rt.alloc(), -65538, key, &IV, b"aad", plain)?;
         for at in 0..sealed.len() {
-            if let Some(byte) = sealed.get_mut(at) {
-                *byte ^= 1;
-            }
-            let opened = suite.open(
-                rt.alloc(),
-                -65538,
-                key.as_slice(),
-                &IV,
-                b"aad",
-                sealed.as_slice(),
-            )?;
-            assert!(rt; opened.is_none());
-            if let Some(byte) = sealed.get_mut(at) {
-                *byte ^= 1;
-            }
+            flip(&mut sealed, at);
+            assert!(rt; !is_opened(&rt, &mut suite, b"aad", sealed.as_slice())?);
+            flip(&mut sealed, at);
         }
-        assert!(rt;
-            suite
-                .open(
-                    rt.alloc(),
-                    -65538,
-                    key.as_slice(),
-                    &IV,
-                    b"aae",
-                    sealed.as_slice()
-                )?
-                .is_none()
-        );
-        assert!(rt;
-            suite
-                .open(
-                    rt.alloc(),
-                    -65538,
-                    key.as_slice(),
-                    &IV,
-                    b"aad",
-                    sealed.as_slice()
-                )?
-                .is_some()
-        );
-        assert!(rt;
-            suite
-                .open(
-                    rt.alloc(),
-                    -65538,
-                    key.as_slice(),
-                    &IV,
-                    b"",
-                    b"fifteen bytes.."
-                )?
-                .is_none()
-        );
+        assert!(rt; is_opened(&rt, &mut suite, b"aad", sealed.as_slice())?);
+        assert!(rt; !is_opened(&rt, &mut suite, b"aae", sealed.as_slice())?);
+        assert!(rt; !is_opened(&rt, &mut suite, b"", b"fifteen bytes..")?);
         Ok(())
+    }
+
+    /// Another value at a place, and the same again at the second time.
+    fn flip(bytes: &mut Vec<u8>, at: usize) {
+        if let Some(byte) = bytes.get_mut(at) {
+            *byte ^= 1;
+        }
     }
 
     static NO_CERTIFICATES: [&str; 5] = [
