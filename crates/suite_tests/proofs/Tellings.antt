@@ -5,7 +5,8 @@ use Rattle.std.proofs.lemmas.List.{length-append, length-map, map-append, take-m
 use Rattle.suite_port.specs.Asked.{Ask, Asks}
 use Rattle.suite_port.specs.declared.fault.SuiteFault.{SuiteFault}
 use Rattle.suite_tests.specs.declared.telling_suite.Call.{Call}
-use Rattle.suite_tests.specs.Telling.{ask_of, asked_more, asks_of, without_last}
+use Rattle.port_base.specs.Told.{grown}
+use Rattle.suite_tests.specs.Telling.{ask_of, asks_of, without_last}
 
 pub asks_noted : (calls : List Call) (call : Call) → asks_of (calls ++ call ∷ []) ≡ asks_of calls ++ ask_of call ∷ []
 unfolding asks_of
@@ -26,6 +27,6 @@ pub settled : {T : Type 0} (before noted after : List Ask) (ask : Ask) (answer :
 settled before noted after ask (Ok value) added kept = ap Some (kept ∙ added)
 settled before noted after ask (Err fault) added kept = ap Some (kept ∙ ap without_last added ∙ without_noted before ask)
 
-pub asked_twice : (asked asked' asked'' : Option (List Ask)) (one other : Ask) → asked' ≡ asked_more asked (one ∷ []) → asked'' ≡ asked_more asked' (other ∷ []) → asked'' ≡ asked_more asked (one ∷ other ∷ [])
-asked_twice None asked' asked'' one other first second = second ∙ ap (λ (a : Option (List Ask)). asked_more a (other ∷ [])) first
-asked_twice (Some asks) asked' asked'' one other first second = second ∙ ap (λ (a : Option (List Ask)). asked_more a (other ∷ [])) first ∙ ap Some (append_assoc asks (one ∷ []) (other ∷ []))
+pub asked_twice : (asked asked' asked'' : Option (List Ask)) (one other : Ask) → asked' ≡ grown asked (one ∷ []) → asked'' ≡ grown asked' (other ∷ []) → asked'' ≡ grown asked (one ∷ other ∷ [])
+asked_twice None asked' asked'' one other first second = second ∙ ap (λ (a : Option (List Ask)). grown a (other ∷ [])) first
+asked_twice (Some asks) asked' asked'' one other first second = second ∙ ap (λ (a : Option (List Ask)). grown a (other ∷ [])) first ∙ ap Some (append_assoc asks (one ∷ []) (other ∷ []))

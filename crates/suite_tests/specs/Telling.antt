@@ -1,6 +1,5 @@
 -- What a telling suite has been asked, by its record of calls.
-use Rattle.std.specs.Prelude.{◌-◌, List, ◌++◌, Option, length, map, take}
-use Rattle.std.specs.Option.{option_map}
+use Rattle.std.specs.Prelude.{◌-◌, List, length, map, take}
 use Rattle.suite_port.specs.Asked.{Ask}
 use Rattle.suite_tests.specs.declared.telling_suite.Call.{Call}
 use Rattle.suite_tests.specs.declared.telling_suite.Call.TheVariants as call
@@ -22,7 +21,3 @@ asks_of calls = map ask_of calls
 
 unfoldable pub without_last : List Ask → List Ask
 without_last asks = take (length asks - 1) asks
-
--- what was asked, and more, where it is told
-abbrev pub asked_more : Option (List Ask) → List Ask → Option (List Ask)
-asked_more asked more = option_map (λ asks. asks ++ more) asked

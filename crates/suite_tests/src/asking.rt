@@ -2,7 +2,8 @@ ghost use Rattle.std.specs.Prelude.{◌≡◌, ◌≢◌, ◌++◌, ◌∷◌, �
 ghost use Rattle.suite_port.specs.Answer.{Counts};
 ghost use Rattle.suite_port.specs.Asked.Ask.{Loaded, Signed};
 ghost use Rattle.suite_port.specs.declared.fault.SuiteFault.TheVariants.{NoAlgorithm};
-ghost use Rattle.suite_tests.specs.Telling.{asked_more, asks_of};
+ghost use Rattle.port_base.specs.Told.{grown};
+ghost use Rattle.suite_tests.specs.Telling.{asks_of};
 
 use crate::telling_suite::Telling;
 use std::alloc::Global;
@@ -20,8 +21,8 @@ pub fn load_and_sign<S: Suite>(
     ensures known { S.Signer.loads private.now ≡ true → ((key : List ℕ) → S.Signer.algorithm key ≢ None) → result ≢ Err NoAlgorithm }
     ensures faults { Counts (S.Holder.faults suite.old) (S.Holder.faults suite.new) result }
     ensures signed { IfOk result (λ r. S.Signer.signs r.0.items text.now r.1.items) }
-    ensures asked { IfOk result (λ r. S.Holder.asked suite.new ≡ asked_more (S.Holder.asked suite.old) (Loaded private.now ∷ Signed r.0.items text.now ∷ [])) }
-    ensures refused { IfErr result (λ _. (S.Holder.asked suite.new ≡ S.Holder.asked suite.old) ⊎ (S.Holder.asked suite.new ≡ asked_more (S.Holder.asked suite.old) (Loaded private.now ∷ []))) }
+    ensures asked { IfOk result (λ r. S.Holder.asked suite.new ≡ grown (S.Holder.asked suite.old) (Loaded private.now ∷ Signed r.0.items text.now ∷ [])) }
+    ensures refused { IfErr result (λ _. (S.Holder.asked suite.new ≡ S.Holder.asked suite.old) ⊎ (S.Holder.asked suite.new ≡ grown (S.Holder.asked suite.old) (Loaded private.now ∷ []))) }
 {
     let key = match suite.load(alloc, private) {
         Ok(key) => key,

@@ -1,7 +1,7 @@
 ghost use Rattle.std.specs.Prelude.{◌≡◌, ◌≢◌, ◌≤◌, ◌*◌, ◌∷◌, [], ℕ, ℤ, negsuc, List, Some, None, true, false, Ok, Err, IfOk, IsSome, length};
 ghost use Rattle.suite_port.specs.Answer.{Answers, Decides, Counts, maybe_bytes_of};
 ghost use Rattle.suite_port.specs.Asked.Ask.{Signed as SignedAsk, Verified as VerifiedAsk};
-ghost use Rattle.suite_tests.specs.Telling.{asked_more};
+ghost use Rattle.port_base.specs.Told.{grown};
 ghost use Rattle.suite_port.specs.declared.fault.SuiteFault.TheVariants.{Failed, NoAlgorithm};
 
 use std::alloc::Global;
@@ -31,7 +31,7 @@ pub fn sign_and_verify<S: Suite>(
     ensures signed { IfOk result (λ r. (S.Signer.algorithm key.now ≡ Some r.alg) × S.Signer.signs key.now text.now r.sig.items) }
     ensures verified { IfOk result (λ r. (r.verified ≡ true) × (S.Verifier.verifies key.now r.alg text.now r.sig.items ≡ Some true)) }
     ensures known { S.Signer.algorithm key.now ≢ None → result ≢ Err NoAlgorithm }
-    ensures asked { IfOk result (λ r. S.Holder.asked suite.new ≡ asked_more (S.Holder.asked suite.old) (SignedAsk key.now text.now ∷ VerifiedAsk key.now r.alg text.now r.sig.items ∷ [])) }
+    ensures asked { IfOk result (λ r. S.Holder.asked suite.new ≡ grown (S.Holder.asked suite.old) (SignedAsk key.now text.now ∷ VerifiedAsk key.now r.alg text.now r.sig.items ∷ [])) }
     ensures faults { Counts (S.Holder.faults suite.old) (S.Holder.faults suite.new) result }
     ensures held { S.Holder.held suite.new ≡ S.Holder.held suite.old }
 {
@@ -66,7 +66,7 @@ fn verify<S: Suite>(
     requires sig { S.Signer.signs key.now text.now signed.sig.items }
     ensures same { IfOk result (λ r. (r.alg ≡ signed.alg) × (r.sig.items ≡ signed.sig.items)) }
     ensures verified { IfOk result (λ r. (r.verified ≡ true) × (S.Verifier.verifies key.now signed.alg text.now signed.sig.items ≡ Some true)) }
-    ensures asked { IfOk result (λ r. S.Holder.asked suite.new ≡ asked_more (S.Holder.asked suite.old) (VerifiedAsk key.now signed.alg text.now signed.sig.items ∷ [])) }
+    ensures asked { IfOk result (λ r. S.Holder.asked suite.new ≡ grown (S.Holder.asked suite.old) (VerifiedAsk key.now signed.alg text.now signed.sig.items ∷ [])) }
     ensures faults { (S.Holder.faults suite.new ≡ S.Holder.faults suite.old) × (result ≢ Err Failed) × (result ≢ Err NoAlgorithm) }
     ensures held { S.Holder.held suite.new ≡ S.Holder.held suite.old }
 {
