@@ -4,7 +4,7 @@ use crate::given::{key, lab};
 use crate::voucher_rows::{FIVE, NO_ENTRIES};
 use key_codec::PublicKey;
 use suite_port::{LabSuite, Signer};
-use suite_tests::{Call, Telling};
+use suite_laws::{Call, Telling};
 use voucher_chain::{ChainFault, Voucher, check_chain, read_voucher};
 use voucher_tool::extend_file;
 

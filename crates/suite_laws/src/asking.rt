@@ -3,7 +3,7 @@ ghost use Rattle.suite_port.specs.Answer.{Counts};
 ghost use Rattle.suite_port.specs.Asked.Ask.{Loaded, Signed};
 ghost use Rattle.suite_port.specs.declared.fault.SuiteFault.TheVariants.{NoAlgorithm};
 ghost use Rattle.port_base.specs.Told.{grown};
-ghost use Rattle.suite_tests.specs.Telling.{asks_of};
+ghost use Rattle.suite_laws.specs.Telling.{asks_of};
 
 use crate::telling_suite::Telling;
 use std::alloc::Global;

@@ -1,7 +1,7 @@
 ghost use Rattle.std.specs.Prelude.{◌≡◌, ◌∷◌, ℕ, List, None, Some, pos, true, false, refl};
 ghost use Rattle.std.proofs.Common.{rules};
 ghost use Rattle.std.specs.Str.{bytes_eq};
-ghost use Rattle.suite_tests.specs.Plain.{plain_held, plain_verifies, plain_first, plain_second, plain_finish, plain_bits, plain_verified};
+ghost use Rattle.suite_laws.specs.Plain.{plain_held, plain_verifies, plain_first, plain_second, plain_finish, plain_bits, plain_verified};
 
 use std::alloc::Global;
 use suite_port::{Aead, CertReader, Holder, Kex, Signer, Suite, SuiteFault, Verifier};

@@ -1,6 +1,6 @@
 ghost use Rattle.std.specs.Prelude.{◌≡◌, ◌++◌, ◌∷◌, [], Some, MatchResult, if◌then◌else◌};
 ghost use Rattle.suite_port.specs.declared.fault.SuiteFault.TheVariants.{NoMemory as OutOfMemory};
-ghost use Rattle.suite_tests.specs.Telling.{ask_of, asks_of, without_last};
+ghost use Rattle.suite_laws.specs.Telling.{ask_of, asks_of, without_last};
 
 use std::alloc::Global;
 use suite_port::{Aead, CertReader, Holder, Kex, Signer, Suite, SuiteFault, Verifier};

@@ -1,6 +1,6 @@
 use Rattle.suite_port.specs.Answer.{bytes_of, two_bytes_of}
-use Rattle.suite_tests.proofs.Ends.{second_takes, finishes, same_value, value_not_none, decides_unless}
-use Rattle.suite_tests.proofs.laws.agree.Goals as goal
+use Rattle.suite_laws.proofs.Ends.{second_takes, finishes, same_value, value_not_none, decides_unless}
+use Rattle.suite_laws.proofs.laws.agree.Goals as goal
 
 pub returns-in-Err-second-clause-known : goal.returns-in-Err-second-clause-known
 returns-in-Err-second-clause-known g c =

@@ -4,9 +4,9 @@ use Rattle.std.proofs.Math.Seq.{take-append_seam}
 use Rattle.std.proofs.lemmas.List.{length-append, length-map, map-append, take-map}
 use Rattle.suite_port.specs.Asked.{Ask, Asks}
 use Rattle.suite_port.specs.declared.fault.SuiteFault.{SuiteFault}
-use Rattle.suite_tests.specs.declared.telling_suite.Call.{Call}
+use Rattle.suite_laws.specs.declared.telling_suite.Call.{Call}
 use Rattle.port_base.specs.Told.{grown}
-use Rattle.suite_tests.specs.Telling.{ask_of, asks_of, without_last}
+use Rattle.suite_laws.specs.Telling.{ask_of, asks_of, without_last}
 
 pub asks_noted : (calls : List Call) (call : Call) → asks_of (calls ++ call ∷ []) ≡ asks_of calls ++ ask_of call ∷ []
 unfolding asks_of

@@ -1,8 +1,8 @@
 -- What a telling suite has been asked, by its record of calls.
 use Rattle.std.specs.Prelude.{◌-◌, List, length, map, take}
 use Rattle.suite_port.specs.Asked.{Ask}
-use Rattle.suite_tests.specs.declared.telling_suite.Call.{Call}
-use Rattle.suite_tests.specs.declared.telling_suite.Call.TheVariants as call
+use Rattle.suite_laws.specs.declared.telling_suite.Call.{Call}
+use Rattle.suite_laws.specs.declared.telling_suite.Call.TheVariants as call
 
 abbrev pub ask_of : Call → Ask
 ask_of (call.Verified key alg text sig) = Ask.Verified key.items alg text.items sig.items

@@ -3,7 +3,7 @@ use Rattle.std.proofs.Common.{◌≡◌, ℕ, ℤ, pos, List, [], Option, None, 
 use Rattle.std.proofs.lemmas.Slice.Eq.{bytes_eq-Decides}
 use Rattle.std.specs.Ordering.{int_eq}
 use Rattle.std.specs.Str.{bytes_eq}
-use Rattle.suite_tests.specs.declared.plain_suite.PlainSuite.{PlainSuite}
+use Rattle.suite_laws.specs.declared.plain_suite.PlainSuite.{PlainSuite}
 
 -- it holds the key that it was made with
 abbrev pub plain_held : PlainSuite → List ℕ → Bool
