@@ -3,8 +3,8 @@ use crate::break_rows::BROKEN;
 use crate::given::{key, lab};
 use crate::voucher_rows::{FIVE, NO_ENTRIES};
 use key_codec::PublicKey;
-use suite_port::{LabSuite, Signer};
 use suite_laws::{Call, Telling};
+use suite_port::{LabSuite, Signer};
 use voucher_chain::{ChainFault, Voucher, check_chain, read_voucher};
 use voucher_tool::extend_file;
 
