@@ -1,7 +1,7 @@
 //! `step rendezvous` over objects in memory.
 use cbor_core::Text;
 use fdo_commands::{Status, fdo};
-use fdo_ports::{ListRandom, MemorySink, MemorySource, PlainSink, PlainSource};
+use fdo_ports::{ListRandom, MemorySink, MemorySource, PlainSink, PlainSource, Source};
 use std::alloc::{AllocError, Global};
 use suite_port::LabSuite;
 
@@ -178,6 +178,43 @@ fn a_longer_input_is_refused(rt: HostRuntime) -> Result<(), AllocError> {
             &mut random,
         );
         assert_eq!(rt; ended, status);
+    }
+    Ok(())
+}
+
+/// An input whose first two reads fail.
+fn failing_twice(alloc: Global) -> Result<MemorySource, AllocError> {
+    let mut fail = numbers(alloc, 1)?;
+    fail.push(2)?;
+    Ok(MemorySource::new(pieces(alloc, b"20 - 80\n", false)?, fail))
+}
+
+/// Whether a run over such an input ends at its first read: the second one is still to come.
+fn ends_at_once(alloc: Global, text: &str) -> Result<bool, AllocError> {
+    let words = words(alloc, text)?;
+    let mut input = failing_twice(alloc)?;
+    let mut suite = LabSuite::new(Vec::new(alloc));
+    let mut random = ListRandom::new(Vec::new(alloc), Vec::new(alloc));
+    let ended = fdo(
+        alloc,
+        words.as_slice(),
+        &mut input,
+        &mut PlainSink::new(),
+        &mut suite,
+        &mut random,
+    );
+    let mut bytes = [0; 8];
+    let second = input.read(&mut bytes);
+    let third = input.read(&mut bytes);
+    Ok(ended == Status::Read && second.is_err() && matches!(third, Ok(8)))
+}
+
+static READERS: [&'static str; 3] = ["step rendezvous", "voucher show", "voucher check"];
+
+#[test]
+fn nothing_is_read_behind_a_failed_read(rt: HostRuntime) -> Result<(), AllocError> {
+    for text in &READERS {
+        assert!(rt; ends_at_once(rt.alloc(), text)?, "{text}");
     }
     Ok(())
 }
