@@ -14,7 +14,7 @@ An array of another length, and a map that lacks a label, have the place of thei
 that of its head. Any well-formed spelling is read. Types whose bodies are not read have the place 0.
 """
 
-from make_cbor import shortest
+from make_cbor import encode, shortest
 
 
 class Fault(Exception):
@@ -29,6 +29,10 @@ class Fault(Exception):
 class Part:
     def __init__(self, major, held, place):
         self.major, self.held, self.place = major, held, place
+
+    # as an item without its place
+    def __iter__(self):
+        return iter((self.major, self.held))
 
 
 class Reader:
@@ -111,20 +115,6 @@ class Reader:
             seen.add(encode(key))
             pairs.append((key, self.item(depth)))
         return pairs
-
-
-def encode(part):
-    major, held = part.major, part.held
-    if major in (2, 3):
-        return shortest(major, len(held)) + held
-    if major == 4:
-        return shortest(4, len(held)) + b"".join(map(encode, held))
-    if major == 5:
-        pairs = sorted((encode(key), encode(value)) for key, value in held)
-        return shortest(5, len(pairs)) + b"".join(key + value for key, value in pairs)
-    if major == 6:
-        return shortest(6, held[0]) + encode(held[1])
-    return shortest(major, held)
 
 
 # ---- parts of bodies: each reads a part and gives its deterministic encoding, or has its fault
