@@ -7,7 +7,6 @@ use crate::cause::Cause;
 use crate::msg::Msg;
 use crate::packet::Packet;
 use crate::token::Token;
-use crate::write::write_body;
 use cbor_core::{Item, NoMemory, Text};
 use std::alloc::Global;
 
@@ -23,8 +22,9 @@ pub fn error_packet(
     ensures { IfOk result (λ packet. packet ≡ error_of cause.now kind token) }
 {
     let code = cause.code(kind).unwrap();
-    let body = write_body(
+    Packet::of(
         alloc,
+        token,
         &Msg::Error {
             code,
             kind: u64::from(kind),
@@ -32,12 +32,7 @@ pub fn error_packet(
             stamp: Item::Simple(22),
             id: Item::Uint(0),
         },
-    )?;
-    Ok(Packet {
-        token,
-        kind: 255,
-        body,
-    })
+    )
 }
 
 /// The refusal of a message of a type, with its error message.
