@@ -4,9 +4,10 @@ ghost use Rattle.fdo_msgs.specs.Refusal.{error_of};
 
 use crate::answer::Answer;
 use crate::cause::Cause;
-use crate::msg::Msg;
+use crate::kind;
 use crate::packet::Packet;
 use crate::token::Token;
+use crate::write::error_body;
 use cbor_core::{Item, NoMemory, Text};
 use std::alloc::Global;
 
@@ -22,17 +23,14 @@ pub fn error_packet(
     ensures { IfOk result (λ packet. packet ≡ error_of cause.now kind token) }
 {
     let code = cause.code(kind).unwrap();
-    Packet::of(
-        alloc,
+    let text = Text::from_str(alloc, text(code))?;
+    let (stamp, id) = (Item::Simple(22), Item::Uint(0));
+    let body = error_body(alloc, code, u64::from(kind), &text, &stamp, &id)?;
+    Ok(Packet {
         token,
-        &Msg::Error {
-            code,
-            kind: u64::from(kind),
-            text: Text::from_str(alloc, text(code))?,
-            stamp: Item::Simple(22),
-            id: Item::Uint(0),
-        },
-    )
+        kind: kind::ERROR,
+        body,
+    })
 }
 
 /// The refusal of a message of a type, with its error message.

@@ -72,7 +72,7 @@ fn body(alloc: Global, message: &Msg) -> Result<Blob, NoMemory>
             text,
             stamp,
             id,
-        } => error(alloc, *code, *kind, text, stamp, id),
+        } => error_body(alloc, *code, *kind, text, stamp, id),
     }
 }
 
@@ -201,7 +201,8 @@ fn owner_info(alloc: Global, more: bool, done: bool, pairs: &InfoPairs) -> Resul
     Ok(Blob::new(out))
 }
 
-fn error(
+/// The body of an error.
+pub(crate) fn error_body(
     alloc: Global,
     code: u16,
     kind: u64,
