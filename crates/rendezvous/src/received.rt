@@ -27,7 +27,10 @@ impl Received {
         match packet.kind {
             kind::ERROR => Ok(Received::PeerError),
             kind::HELLO => match read_body(alloc, kind::HELLO, packet.body.as_list()) {
-                Ok(_) => Ok(Received::Hello),
+                Ok(message) => {
+                    drop(message);
+                    Ok(Received::Hello)
+                }
                 Err(BodyFault::Body(place)) => Ok(Received::Unfit(Cause::Body(place))),
                 Err(BodyFault::NoMemory) => Err(NoMemory),
             },

@@ -78,6 +78,8 @@ fn hello_ack(
         return refuse(alloc, Cause::Outside(Object::Random), kind::HELLO, None);
     };
     let token = token_text(alloc, &token)?;
-    let packet = Packet::of(alloc, Some(token), &Msg::HelloAck(nonce))?;
-    Ok(Answer::Reply(packet))
+    let message = Msg::HelloAck(nonce);
+    let packet = Packet::of(alloc, Some(token), &message);
+    drop(message);
+    Ok(Answer::Reply(packet?))
 }
