@@ -14,13 +14,14 @@ use Rattle.fdo_msgs.specs.Reading.{body_at}
 use Rattle.fdo_msgs.specs.declared.msg.Msg.{Msg}
 use Rattle.fdo_msgs.specs.declared.msg.Msg.TheVariants as msg
 use Rattle.fdo_msgs.specs.declared.packet.Packet.{Packet}
-use Rattle.rendezvous.specs.RvState.{RvGivesUp, RvState}
+use Rattle.rendezvous.specs.RvState.{RvState}
 use Rattle.rendezvous.specs.Receiving.{received_as, with_body}
 use Rattle.rendezvous.specs.RvStep.{NonceStep, ReceivedStep, RvStep, TokenStep, hello_ack}
 use Rattle.rendezvous.specs.declared.received.Received.{Received}
 use Rattle.rendezvous.specs.declared.received.Received.TheVariants as received
 use Rattle.fdo_commands.specs.Answering.{blamed, first_blamed, rank, sooner}
-use Rattle.fdo_commands.specs.Ending.{Ends, Streams}
+use Rattle.fdo_commands.specs.Ending.{Ends, Lent}
+use Rattle.fdo_commands.specs.Ran.{rendezvous}
 use Rattle.fdo_commands.specs.declared.status.Status.{Status}
 use Rattle.fdo_commands.specs.declared.status.Status.TheVariants as status
 
@@ -109,25 +110,25 @@ run_counts s (_ ∷ _) [] t run = absurd run
 run_counts s (packet ∷ packets) (answer ∷ answers) t run =
     counts_both (blamed answer) (first_blamed answers) s.random.faults run.0.random.faults t.random.faults (step_counts s packet answer run.0 run.1) (run_counts run.0 packets answers t run.2)
 
-module _ (s t : RvState) (before after : Streams) (ending : Status) (ends : Ends RvStep RvGivesUp s t before after ending) where
-  at : (e : Status) → ending ≡ e → Ends RvStep RvGivesUp s t before after e
-  at e is = subst (Ends RvStep RvGivesUp s t before after) is ends
+module _ (before after : Lent RvState) (ending : Status) (ends : Ends rendezvous before after ending) where
+  at : (e : Status) → ending ≡ e → Ends rendezvous before after e
+  at e is = subst (Ends rendezvous before after) is ends
 
-  pub ends_done : ending ≡ status.Done → (t.random.faults ≡ s.random.faults) × (after.read_faults ≡ before.read_faults) × (after.write_faults ≡ before.write_faults)
-  ends_done is =
-      let done = at status.Done is in
-      (subst (λ b. CountsIf b s.random.faults t.random.faults) done.3.3 (run_counts s done.3.0 done.3.1 t done.3.2.1), done.2, done.3.4.1)
+  draws_counted : (packets : List Packet) (answers : List Answer) (object : Option Object) → Runs RvStep before.stage.state packets answers after.stage.state → first_blamed answers ≡ object → CountsIf object before.stage.state.random.faults after.stage.state.random.faults
+  draws_counted packets answers object run is =
+      subst (λ b. CountsIf b before.stage.state.random.faults after.stage.state.random.faults) is (run_counts before.stage.state packets answers after.stage.state run)
 
-  pub ends_read : ending ≡ status.Read → Rises before.read_faults after.read_faults
+  pub ends_done : ending ≡ status.Done → (after.stage.state.random.faults ≡ before.stage.state.random.faults) × (after.input.read_faults ≡ before.input.read_faults) × (after.stage.output.write_faults ≡ before.stage.output.write_faults)
+  ends_done is = let done = at status.Done is in (draws_counted done.3.0 done.3.1 None done.3.2.1 done.3.3, done.2, done.3.4.1)
+
+  pub ends_read : ending ≡ status.Read → Rises before.input.read_faults after.input.read_faults
   ends_read is = (at status.Read is).3
 
-  pub ends_write : ending ≡ status.Write → Rises before.write_faults after.write_faults
+  pub ends_write : ending ≡ status.Write → Rises before.stage.output.write_faults after.stage.output.write_faults
   ends_write is = let failed = at status.Write is in failed.3.6
 
-  pub ends_random : ending ≡ status.Outside → Rises s.random.faults t.random.faults
-  ends_random is =
-      let failed = at status.Outside is in
-      subst (λ b. CountsIf b s.random.faults t.random.faults) failed.3.4 (run_counts s failed.3.0 failed.3.1 t failed.3.2.1)
+  pub ends_random : ending ≡ status.Outside → Rises before.stage.state.random.faults after.stage.state.random.faults
+  ends_random is = let failed = at status.Outside is in draws_counted failed.3.0 failed.3.1 (Some failed.3.3) failed.3.2.1 failed.3.4
 
   pub ends_no_words : ending ≢ status.Words
   ends_no_words is = (at status.Words is).3

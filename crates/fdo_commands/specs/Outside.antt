@@ -1,26 +1,36 @@
--- The objects of the outside, as a command meets them.
+-- The objects of the environment, as a command meets them.
 use Rattle.std.specs.Prelude.{◌≡◌, ℕ, ℤ, Bool, List, Option, codes}
-use Rattle.fdo_ports.specs.Draw.{Drawn, drawn}
-use Rattle.fdo_ports.specs.declared.channel.Channel.{Ghosts as Channel}
-use Rattle.fdo_ports.specs.declared.random.Random.{Ghosts as Random}
-use Rattle.suite_port.specs.Keys.{Keys, keys}
-use Rattle.suite_port.specs.declared.holder.Holder.{Ghosts as Holder}
+use Rattle.fdo_ports.specs.Draw.{Drawn}
+use Rattle.fdo_ports.specs.Stream.{Stream}
+use Rattle.suite_port.specs.Keys.{Keys}
 use Rattle.voucher_chain.specs.Chain.{Verifies}
-use Rattle.fdo_commands.specs.Ending.{EndsWith, Streams, streams}
+use Rattle.fdo_commands.specs.Ending.{EndsWith, Lent, lent}
 
--- what the objects tell, and their counts of faults
+-- what each object tells, and its count of faults
 pub record Outside : Type 0 where
-  pub streams : Streams
+  pub input : Stream
+  pub output : Stream
   pub suite : Keys
   pub random : Drawn
 
--- those of an input, an output, a suite and a source of random draws, by their types' traits
-abbrev pub outside : {I O S N : Type 0} → Channel I → I → Channel O → O → Holder S → S → Random N → N → Outside
-outside source input sink output holder suite draws random = record {
-  streams = streams source input sink output;
-  suite = keys holder suite;
-  random = drawn draws random;
-}
+abbrev pub outside : Stream → Stream → Keys → Drawn → Outside
+outside input output suite random = record { input = input; output = output; suite = suite; random = random }
+
+-- what a command was lent of them: the streams, and what stands for the others that it uses
+abbrev pub lent_of : {S : Type 0} → (Outside → S) → Outside → Lent S
+lent_of state objects = lent (state objects) objects.input objects.output
+
+-- a command used no object but its streams
+abbrev pub only_streams : Outside → Outside → Outside
+only_streams before after = record before { input = after.input; output = after.output }
+
+-- but its streams and the suite
+abbrev pub only_suite : Outside → Outside → Outside
+only_suite before after = record before { input = after.input; output = after.output; suite = after.suite }
+
+-- but its streams and the random draws
+abbrev pub only_random : Outside → Outside → Outside
+only_random before after = record before { input = after.input; output = after.output; random = after.random }
 
 -- what a suite says of signatures and keys, whichever of them it holds
 pub record Signing : Type 0 where
@@ -32,13 +42,12 @@ abbrev pub signing : Verifies → (List ℕ → Option ℤ) → (List ℕ → Bo
 signing verifies algorithm loads = record { verifies = verifies; algorithm = algorithm; loads = loads }
 
 -- a last line is all that is done to the input and the output
-pub record OnlyLine (text : List ℕ) (before after : Streams) : Type 0 where
-  pub line : EndsWith before.written before.write_faults after.written after.write_faults text
-  pub left : after.left ≡ before.left
-  pub read_faults : after.read_faults ≡ before.read_faults
+pub record OnlyLine (text : List ℕ) (input input' output output' : Stream) : Type 0 where
+  pub line : EndsWith output output' text
+  pub left : input'.left ≡ input.left
+  pub read_faults : input'.read_faults ≡ input.read_faults
 
 -- no command ran: that is the last line, and nothing is read, loaded or drawn
 pub record RanNone (before after : Outside) : Type 0 where
-  pub line : OnlyLine (codes "fault words\n") before.streams after.streams
-  pub suite : after.suite ≡ before.suite
-  pub random : after.random ≡ before.random
+  pub line : OnlyLine (codes "fault words\n") before.input after.input before.output after.output
+  pub rest : after ≡ only_streams before after

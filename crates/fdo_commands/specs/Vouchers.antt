@@ -15,6 +15,7 @@ use Rattle.voucher_tool.specs.Refusal.{refusal_text}
 use Rattle.voucher_tool.specs.Show.{show_text}
 use Rattle.suite_port.specs.Keys.{Keys, asking}
 use Rattle.fdo_commands.specs.Outside.{Signing}
+use Rattle.fdo_commands.specs.Texts.{Telling}
 use Rattle.fdo_commands.specs.declared.texts.Told.{Told}
 use Rattle.fdo_commands.specs.declared.texts.Told.TheVariants as told
 
@@ -57,9 +58,12 @@ check_of verifies bytes = checked_as verifies (voucher_at bytes)
 abbrev pub Shows : {S : Type 0} → S → List ℕ → Told → S → Type 0
 Shows s bytes what t = (what ≡ show_of bytes) × (t ≡ s)
 
--- want of memory leaves all as it was
+-- running out of memory leaves all as it was
 abbrev pub Keeps : {S : Type 0} → S → List ℕ → S → Type 0
 Keeps s bytes t = t ≡ s
+
+abbrev pub showing : Telling (Unit {0})
+showing = record { Tells = Shows; GivesUp = Keeps }
 
 -- the signatures of a voucher that are asked for: those of all entries, or those before the break and of it
 abbrev pub asks_until : Voucher → Option ChainFault → List Ask
@@ -83,6 +87,9 @@ Checks verifies s bytes what t = (what ≡ check_of verifies bytes) × (t ≡ as
 abbrev pub ChecksFront : Keys → List ℕ → Keys → Type 0
 ChecksFront s bytes t = (n : ℕ) × (t ≡ asking s (first_asks n (voucher_at bytes)))
 
+abbrev pub checking : Verifies → Telling Keys
+checking verifies = record { Tells = Checks verifies; GivesUp = ChecksFront }
+
 -- a voucher gets one more entry, or is refused: how `extend_file` answers, by the keys that are held; the suite's count of
 -- faults rises where the signer fails, and it is asked for the one signature
 pub record Extends (signs : Signing) (next : PublicKey) (s : Keys) (bytes : List ℕ) (what : Told) (t : Keys) : Type 0 where
@@ -105,3 +112,6 @@ pub record ExtendsFront (s : Keys) (bytes : List ℕ) (t : Keys) : Type 0 where
   pub held : t.held ≡ s.held
   pub counts : (t.faults ≡ s.faults) ⊎ Rises s.faults t.faults
   pub asked : MaySignFile s.asked t.asked (voucher_at bytes)
+
+abbrev pub extending : Signing → PublicKey → Telling Keys
+extending signs next = record { Tells = Extends signs next; GivesUp = ExtendsFront }

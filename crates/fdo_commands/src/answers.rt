@@ -1,6 +1,7 @@
 ghost use Rattle.std.specs.Prelude.{◌≡◌, IfOk, drop};
 ghost use Rattle.fdo_ports.specs.Stream.{OnlyWritten, stream};
-ghost use Rattle.fdo_commands.specs.Answering.{AnswersAll, AnswersOne, StopCounts, blamed as blamed_by, rank as rank_of, sooner as sooner_of};
+ghost use Rattle.fdo_commands.specs.Answering.{AnswersAll, AnswersOne, StopCounts, role, stage};
+ghost use Rattle.fdo_commands.specs.Answering.{blamed as blamed_by, rank as rank_of, sooner as sooner_of};
 ghost use Rattle.fdo_commands.specs.Line.{answer_line, packet_line, token_word};
 
 use cbor_core::NoMemory;
@@ -16,7 +17,7 @@ pub(crate) enum Stop {
     NoMemory,
 }
 
-/// Answers the messages one after another, a line each, and says which object of the outside failed meanwhile; of several
+/// Answers the messages one after another, a line each, and says which object of the environment failed meanwhile; of several
 /// the one that the last line names.
 pub(crate) fn answer_all<H: Handler, O: Sink>(
     alloc: Global,
@@ -25,9 +26,10 @@ pub(crate) fn answer_all<H: Handler, O: Sink>(
     output: &mut O,
 ) -> Result<Option<Object>, Stop>
     requires { H.ready handler.old }
-    ensures answers { AnswersAll H.Steps H.GivesUp (H.state handler.old) packets.now (H.state handler.new)
-        (O.Channel.written output.old) (O.Channel.written output.new) result }
-    ensures faults { StopCounts (O.Channel.write_faults output.old) (O.Channel.write_faults output.new) result }
+    ensures answers { AnswersAll (role H.Steps H.GivesUp) packets.now
+        (stage (H.state handler.old) (stream O.Channel output.old))
+        (stage (H.state handler.new) (stream O.Channel output.new)) result }
+    ensures faults { StopCounts (stream O.Channel output.old) (stream O.Channel output.new) result }
     ensures ready { H.ready handler.new }
     ensures objects { H.objects handler.new ≡ H.objects handler.old }
     ensures output { OnlyWritten (stream O.Channel output.old) (stream O.Channel output.new) }
@@ -71,7 +73,7 @@ fn rank(object: Object) -> u8
     }
 }
 
-/// Answers one message, and says which object of the outside failed.
+/// Answers one message, and says which object of the environment failed.
 fn answer_one<H: Handler, O: Sink>(
     alloc: Global,
     handler: &mut H,
@@ -79,9 +81,10 @@ fn answer_one<H: Handler, O: Sink>(
     output: &mut O,
 ) -> Result<Option<Object>, Stop>
     requires { H.ready handler.old }
-    ensures answer { AnswersOne H.Steps H.GivesUp (H.state handler.old) packet.now (H.state handler.new)
-        (O.Channel.written output.old) (O.Channel.written output.new) result }
-    ensures faults { StopCounts (O.Channel.write_faults output.old) (O.Channel.write_faults output.new) result }
+    ensures answer { AnswersOne (role H.Steps H.GivesUp) packet.now
+        (stage (H.state handler.old) (stream O.Channel output.old))
+        (stage (H.state handler.new) (stream O.Channel output.new)) result }
+    ensures faults { StopCounts (stream O.Channel output.old) (stream O.Channel output.new) result }
     ensures ready { H.ready handler.new }
     ensures objects { H.objects handler.new ≡ H.objects handler.old }
     ensures output { OnlyWritten (stream O.Channel output.old) (stream O.Channel output.new) }

@@ -1,4 +1,7 @@
-ghost use Rattle.std.specs.Prelude.{◌≡◌, ◌↔◌, IsTrue, IfOk, IfErr};
+ghost use Rattle.std.specs.Prelude.{◌≡◌, ◌↔◌, codes, IfOk, IfErr, IsTrue, bytes_eq};
+ghost use Rattle.fdo_commands.specs.Commands.{HasKeys, IsExtendForm, command_said, two_said};
+ghost use Rattle.fdo_commands.specs.Commands.{extend_of, extend_said, extend_with, four_said};
+ghost use Rattle.fdo_commands.specs.KeyWords.{bytes_said};
 
 use crate::key_words::{read_bytes, read_key_word};
 use cbor_core::{Blob, NoMemory, Text};
@@ -19,76 +22,56 @@ pub enum Command {
     VoucherExtend(PublicKey, Blob),
 }
 
-ghost use Rattle.fdo_commands.specs.Commands.{Finds, FindsExtend, IsExtendForm, step_rendezvous, voucher_check, voucher_show};
-
 impl Command {
     /// The command that the words name, or None where they name none. Only `voucher extend` with two words more takes
     /// memory.
     pub fn of(alloc: Global, words: &[Text]) -> Result<Option<Command>, NoMemory>
-        ensures found { IfOk result (Finds words.now) }
+        ensures found { IfOk result (λ command. command ≡ command_said words.now) }
+        // A key that is read is of the form.
+        ensures keys { IfOk result HasKeys }
         ensures no_memory { IfErr result (λ _. IsExtendForm words.now) }
     {
-        if is_step_rendezvous(words) {
-            return Ok(Some(Command::StepRendezvous));
+        match words {
+            [one, two] => Ok(of_two(one, two)),
+            [one, two, three, four] => of_four(alloc, one, two, three, four),
+            _ => Ok(None),
         }
-        if is_voucher_show(words) {
-            return Ok(Some(Command::VoucherShow));
-        }
-        if is_voucher_check(words) {
-            return Ok(Some(Command::VoucherCheck));
-        }
-        voucher_extend(alloc, words)
     }
 }
 
-fn is_step_rendezvous(words: &[Text]) -> bool
-    ensures { IsTrue result ↔ (words.now ≡ step_rendezvous) }
+fn of_two(one: &Text, two: &Text) -> Option<Command>
+    ensures { result ≡ two_said one.now two.now }
 {
-    match words {
-        [step, role] => is(step, "step") && is(role, "rendezvous"),
-        _ => false,
+    if is(one, "step") && is(two, "rendezvous") {
+        Some(Command::StepRendezvous)
+    } else if is(one, "voucher") && is(two, "show") {
+        Some(Command::VoucherShow)
+    } else if is(one, "voucher") && is(two, "check") {
+        Some(Command::VoucherCheck)
+    } else {
+        None
     }
 }
 
-fn is_voucher_show(words: &[Text]) -> bool
-    ensures { IsTrue result ↔ (words.now ≡ voucher_show) }
+fn of_four(
+    alloc: Global,
+    one: &Text,
+    two: &Text,
+    three: &Text,
+    four: &Text,
+) -> Result<Option<Command>, NoMemory>
+    ensures found { IfOk result (λ found. found ≡ four_said one.now two.now three.now four.now) }
+    ensures extend { IfErr result (λ _. (one.now ≡ codes "voucher") × (two.now ≡ codes "extend")) }
 {
-    match words {
-        [voucher, show] => is(voucher, "voucher") && is(show, "show"),
-        _ => false,
+    if is(one, "voucher") && is(two, "extend") {
+        read_extend(alloc, three, four)
+    } else {
+        Ok(None)
     }
 }
 
-fn is_voucher_check(words: &[Text]) -> bool
-    ensures { IsTrue result ↔ (words.now ≡ voucher_check) }
-{
-    match words {
-        [voucher, check] => is(voucher, "voucher") && is(check, "check"),
-        _ => false,
-    }
-}
-
-/// The command `voucher extend` with its two words, or None where the words are of another form.
-fn voucher_extend(alloc: Global, words: &[Text]) -> Result<Option<Command>, NoMemory>
-    ensures found { IfOk result (FindsExtend words.now) }
-    ensures no_memory { IfErr result (λ _. IsExtendForm words.now) }
-{
-    match words {
-        [voucher, extend, key, private] => {
-            if is(voucher, "voucher") && is(extend, "extend") {
-                key_and_private(alloc, key, private)
-            } else {
-                Ok(None)
-            }
-        }
-        _ => Ok(None),
-    }
-}
-
-ghost use Rattle.fdo_commands.specs.Commands.{extend_said, extend_with};
-ghost use Rattle.fdo_commands.specs.KeyWords.{bytes_said};
-
-fn key_and_private(alloc: Global, key: &Text, private: &Text) -> Result<Option<Command>, NoMemory>
+/// The command `voucher extend` with its two words, or None where one of them is not of its form.
+fn read_extend(alloc: Global, key: &Text, private: &Text) -> Result<Option<Command>, NoMemory>
     ensures { IfOk result (λ found. found ≡ extend_said key.now private.now) }
 {
     match read_key_word(alloc, key)? {
@@ -107,7 +90,8 @@ fn with_private(alloc: Global, next: PublicKey, private: &Text) -> Result<Option
 }
 
 fn is(word: &Text, text: &str) -> bool
-    ensures { IsTrue result ↔ (word.now ≡ text.now) }
+    ensures value { result ≡ bytes_eq word.now text.now }
+    ensures same { IsTrue result ↔ (word.now ≡ text.now) }
 {
     word.as_list() == text
 }

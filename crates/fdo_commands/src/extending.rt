@@ -1,11 +1,11 @@
 ghost use Rattle.std.specs.Prelude.{◌≡◌, MatchResult};
 ghost use Rattle.suite_port.specs.Keys.{keys};
 ghost use Rattle.fdo_ports.specs.Stream.{OnlyRead, OnlyWritten, stream};
-ghost use Rattle.fdo_commands.specs.Ending.{streams};
+ghost use Rattle.fdo_commands.specs.Ending.{lent};
 ghost use Rattle.fdo_commands.specs.Extending.{ExtendEnds, Unloaded};
 ghost use Rattle.fdo_commands.specs.Outside.{signing};
 ghost use Rattle.fdo_commands.specs.Texts.{TextEnds};
-ghost use Rattle.fdo_commands.specs.Vouchers.{Extends, ExtendsFront};
+ghost use Rattle.fdo_commands.specs.Vouchers.{Extends, ExtendsFront, extending};
 
 use crate::fault_line::end_with;
 use crate::input::read_input;
@@ -30,10 +30,8 @@ pub(crate) fn voucher_extend<I: Source, O: Sink, S: Suite>(
     suite: &mut S,
 ) -> Status
     ensures ends { ExtendEnds (signing S.Verifier.verifies S.Signer.algorithm S.Signer.loads) next.now private.now
-        (keys S.Holder suite.old)
-        (keys S.Holder suite.new)
-        (streams I.Channel input.old O.Channel output.old)
-        (streams I.Channel input.new O.Channel output.new) result }
+        (lent (keys S.Holder suite.old) (stream I.Channel input.old) (stream O.Channel output.old))
+        (lent (keys S.Holder suite.new) (stream I.Channel input.new) (stream O.Channel output.new)) result }
     ensures input { OnlyRead (stream I.Channel input.old) (stream I.Channel input.new) }
     ensures output { OnlyWritten (stream O.Channel output.old) (stream O.Channel output.new) }
 {
@@ -45,8 +43,7 @@ pub(crate) fn voucher_extend<I: Source, O: Sink, S: Suite>(
 
 /// Writes the last line for a private key that is not loaded, and says how the command ended.
 fn end_unloaded<O: Sink>(output: &mut O, fault: SuiteFault) -> Status
-    ensures unloaded { Unloaded fault (O.Channel.written output.old) (O.Channel.write_faults output.old)
-        (O.Channel.written output.new) (O.Channel.write_faults output.new) result }
+    ensures unloaded { Unloaded fault (stream O.Channel output.old) (stream O.Channel output.new) result }
     ensures output { OnlyWritten (stream O.Channel output.old) (stream O.Channel output.new) }
 {
     match fault {
@@ -69,11 +66,9 @@ fn extend_input<I: Source, O: Sink, S: Suite>(
     output: &mut O,
     suite: &mut S,
 ) -> Status
-    ensures ends { TextEnds (Extends (signing S.Verifier.verifies S.Signer.algorithm S.Signer.loads) next.now) ExtendsFront
-        (keys S.Holder suite.old)
-        (keys S.Holder suite.new)
-        (streams I.Channel input.old O.Channel output.old)
-        (streams I.Channel input.new O.Channel output.new) result }
+    ensures ends { TextEnds (extending (signing S.Verifier.verifies S.Signer.algorithm S.Signer.loads) next.now)
+        (lent (keys S.Holder suite.old) (stream I.Channel input.old) (stream O.Channel output.old))
+        (lent (keys S.Holder suite.new) (stream I.Channel input.new) (stream O.Channel output.new)) result }
     ensures input { OnlyRead (stream I.Channel input.old) (stream I.Channel input.new) }
     ensures output { OnlyWritten (stream O.Channel output.old) (stream O.Channel output.new) }
 {

@@ -11,8 +11,7 @@ use itoa::Buffer;
 /// Writes the last line of a command that ended with a fault. Where the output fails, the line lacks something at
 /// its end, and the status of the command stays.
 pub(crate) fn end_with<O: Sink>(output: &mut O, line: &[u8])
-    ensures line { EndsWith (O.Channel.written output.old) (O.Channel.write_faults output.old)
-        (O.Channel.written output.new) (O.Channel.write_faults output.new) line.now }
+    ensures line { EndsWith (stream O.Channel output.old) (stream O.Channel output.new) line.now }
     ensures output { OnlyWritten (stream O.Channel output.old) (stream O.Channel output.new) }
 {
     let _ = write_all(output, line);
@@ -20,8 +19,7 @@ pub(crate) fn end_with<O: Sink>(output: &mut O, line: &[u8])
 
 /// The same for an input that is not of the command's form, at this byte.
 pub(crate) fn end_with_place<O: Sink>(output: &mut O, place: usize)
-    ensures line { EndsWith (O.Channel.written output.old) (O.Channel.write_faults output.old)
-        (O.Channel.written output.new) (O.Channel.write_faults output.new) (wrong_input place) }
+    ensures line { EndsWith (stream O.Channel output.old) (stream O.Channel output.new) (wrong_input place) }
     ensures output { OnlyWritten (stream O.Channel output.old) (stream O.Channel output.new) }
 {
     let mut number = Buffer::new();
@@ -41,7 +39,7 @@ fn wrong_input_line(digits: &str) -> ArrayString<40>
     line
 }
 
-/// The last line of a command for which an object of the outside failed.
+/// The last line of a command for which an object of the environment failed.
 pub(crate) fn object_line(object: Object) -> &'static [u8]
     ensures { result.now ≡ line_of object }
 {

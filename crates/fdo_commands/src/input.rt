@@ -19,7 +19,7 @@ pub(crate) enum InputFault {
 }
 
 /// All bytes of the input to its end, where they are no more than the most.
-#[tactic(auto, using(crate::proofs::TookMore::took_nothing, crate::proofs::TookMore::took_more))]
+#[tactic(auto, using(crate::proofs::BytesTaken::took_nothing, crate::proofs::BytesTaken::took_more))]
 pub(crate) fn read_input<I: Source>(alloc: Global, input: &mut I) -> Result<Vec<u8>, InputFault>
     ensures bytes { ReadsInput (I.Channel.left input.old) (I.Channel.left input.new) result }
     ensures faults { InputCounts (I.Channel.read_faults input.old) (I.Channel.read_faults input.new) result }

@@ -1,4 +1,4 @@
-//! The commands of the program over the objects of the outside: the top call `fdo`.
+//! The commands of the program over the objects of the environment: the top call `fdo`.
 #![tactic(auto)]
 
 mod answers;

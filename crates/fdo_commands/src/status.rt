@@ -20,7 +20,7 @@ pub enum Status {
     Limit,
     /// The input is of the command's form, and refused: a voucher that does not hold, or one that is too long.
     Refused,
-    /// An object of the outside failed: the source of random draws, meanwhile, or the signer, as it took a private key.
+    /// An object of the environment failed: the source of random draws, meanwhile, or the signer, as it took a private key.
     Outside,
 }
 

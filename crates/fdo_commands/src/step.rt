@@ -1,6 +1,7 @@
 ghost use Rattle.std.specs.Prelude.{◌≡◌};
 ghost use Rattle.fdo_ports.specs.Stream.{OnlyRead, OnlyWritten, stream};
-ghost use Rattle.fdo_commands.specs.Ending.{AnswersBytes, Ends, streams};
+ghost use Rattle.fdo_commands.specs.Answering.{role, stage};
+ghost use Rattle.fdo_commands.specs.Ending.{AnswersBytes, Ends, lent};
 
 use crate::answers::{Stop, answer_all};
 use crate::fault_line::{end_with, end_with_place, object_line};
@@ -20,9 +21,9 @@ pub(crate) fn step<H: Handler, I: Source, O: Sink>(
     output: &mut O,
 ) -> Status
     requires { H.ready handler.old }
-    ensures ends { Ends H.Steps H.GivesUp (H.state handler.old) (H.state handler.new)
-        (streams I.Channel input.old O.Channel output.old)
-        (streams I.Channel input.new O.Channel output.new) result }
+    ensures ends { Ends (role H.Steps H.GivesUp)
+        (lent (H.state handler.old) (stream I.Channel input.old) (stream O.Channel output.old))
+        (lent (H.state handler.new) (stream I.Channel input.new) (stream O.Channel output.new)) result }
     ensures ready { H.ready handler.new }
     ensures objects { H.objects handler.new ≡ H.objects handler.old }
     ensures input { OnlyRead (stream I.Channel input.old) (stream I.Channel input.new) }
@@ -42,9 +43,9 @@ fn answer_bytes<H: Handler, O: Sink>(
     output: &mut O,
 ) -> Status
     requires { H.ready handler.old }
-    ensures answers { AnswersBytes H.Steps H.GivesUp (H.state handler.old) (H.state handler.new) bytes.now
-        (O.Channel.written output.old) (O.Channel.write_faults output.old)
-        (O.Channel.written output.new) (O.Channel.write_faults output.new) result }
+    ensures answers { AnswersBytes (role H.Steps H.GivesUp) bytes.now
+        (stage (H.state handler.old) (stream O.Channel output.old))
+        (stage (H.state handler.new) (stream O.Channel output.new)) result }
     ensures ready { H.ready handler.new }
     ensures objects { H.objects handler.new ≡ H.objects handler.old }
     ensures output { OnlyWritten (stream O.Channel output.old) (stream O.Channel output.new) }

@@ -21,8 +21,7 @@ pub(crate) enum Told {
 
 /// Writes what is told of the input, and says how the command ended.
 pub(crate) fn end_found<O: Sink>(output: &mut O, found: Result<Told, NoMemory>) -> Status
-    ensures found { WritesFound found (O.Channel.written output.old) (O.Channel.write_faults output.old)
-        (O.Channel.written output.new) (O.Channel.write_faults output.new) result }
+    ensures found { WritesFound found (stream O.Channel output.old) (stream O.Channel output.new) result }
     ensures output { OnlyWritten (stream O.Channel output.old) (stream O.Channel output.new) }
 {
     match found {
@@ -32,8 +31,7 @@ pub(crate) fn end_found<O: Sink>(output: &mut O, found: Result<Told, NoMemory>) 
 }
 
 fn end_told<O: Sink>(output: &mut O, told: Told) -> Status
-    ensures told { WritesTold told (O.Channel.written output.old) (O.Channel.write_faults output.old)
-        (O.Channel.written output.new) (O.Channel.write_faults output.new) result }
+    ensures told { WritesTold told (stream O.Channel output.old) (stream O.Channel output.new) result }
     ensures output { OnlyWritten (stream O.Channel output.old) (stream O.Channel output.new) }
 {
     match told {
@@ -54,8 +52,7 @@ fn end_told<O: Sink>(output: &mut O, told: Told) -> Status
 
 /// Writes the last line for an input that is not read to its end, and says how the command ended.
 pub(crate) fn end_unread<O: Sink>(output: &mut O, fault: InputFault) -> Status
-    ensures fails { InputFails fault (O.Channel.written output.old) (O.Channel.write_faults output.old)
-        (O.Channel.written output.new) (O.Channel.write_faults output.new) result }
+    ensures fails { InputFails fault (stream O.Channel output.old) (stream O.Channel output.new) result }
     ensures output { OnlyWritten (stream O.Channel output.old) (stream O.Channel output.new) }
 {
     match fault {

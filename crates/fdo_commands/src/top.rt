@@ -1,11 +1,13 @@
-ghost use Rattle.std.specs.Prelude.{◌≡◌, ◌≢◌, ◌⊎◌, ℕ, List, true};
+ghost use Rattle.std.specs.Prelude.{◌≡◌, IfSome};
+ghost use Rattle.fdo_ports.specs.Draw.{drawn};
 ghost use Rattle.fdo_ports.specs.Stream.{OnlyRead, OnlyWritten, stream};
-ghost use Rattle.fdo_commands.specs.declared.command.Command.{Command};
+ghost use Rattle.suite_port.specs.Keys.{keys};
+ghost use Rattle.rendezvous.specs.RvState.{rv_state};
 ghost use Rattle.fdo_commands.specs.declared.status.Status.TheVariants as status;
-ghost use Rattle.port_base.specs.Count.{Rises};
-ghost use Rattle.fdo_commands.specs.Commands.{Names, Unloadable};
+ghost use Rattle.fdo_commands.specs.Commands.{Unloadable, command_said};
+ghost use Rattle.fdo_commands.specs.Ending.{Ends, lent};
 ghost use Rattle.fdo_commands.specs.Outside.{outside, signing};
-ghost use Rattle.fdo_commands.specs.Ran.{Ran, RanUnnamed};
+ghost use Rattle.fdo_commands.specs.Ran.{Outcome, Ran, RanWords, rendezvous};
 
 use crate::command::Command;
 use crate::extending::voucher_extend;
@@ -19,7 +21,7 @@ use rendezvous::{RvHandler, Server};
 use std::alloc::Global;
 use suite_port::Suite;
 
-/// Runs the command that the words name over these objects of the outside, and says how it ended.
+/// Runs the command that the words name over these objects of the environment, and says how it ended.
 pub fn fdo<I: Source, O: Sink, S: Suite, N: Random>(
     alloc: Global,
     words: &[Text],
@@ -28,28 +30,32 @@ pub fn fdo<I: Source, O: Sink, S: Suite, N: Random>(
     suite: &mut S,
     random: &mut N,
 ) -> Status
-    // Words that name no command have their last line, and nothing else is done.
-    ensures unnamed { ((command : Command) → Names words.now command → ⊥) → RanUnnamed words.now
-        (outside I.Channel input.old O.Channel output.old S.Holder suite.old N.Random random.old)
-        (outside I.Channel input.new O.Channel output.new S.Holder suite.new N.Random random.new) result }
-    // Else the command's private key is none of the suite's.
-    ensures words { result ≡ status.Words → (command : Command) → Names words.now command → Unloadable S.Signer.loads command }
-    // What the command did.
-    ensures ran { (command : Command) → Names words.now command → Ran (signing S.Verifier.verifies S.Signer.algorithm S.Signer.loads) command
-        (outside I.Channel input.old O.Channel output.old S.Holder suite.old N.Random random.old)
-        (outside I.Channel input.new O.Channel output.new S.Holder suite.new N.Random random.new) result }
-    ensures done { result ≡ status.Done → (N.faults random.new ≡ N.faults random.old)
-        × (S.Holder.faults suite.new ≡ S.Holder.faults suite.old)
-        × (I.Channel.read_faults input.new ≡ I.Channel.read_faults input.old)
-        × (O.Channel.write_faults output.new ≡ O.Channel.write_faults output.old) }
-    ensures read { result ≡ status.Read → Rises (I.Channel.read_faults input.old) (I.Channel.read_faults input.new) }
-    ensures write { result ≡ status.Write → Rises (O.Channel.write_faults output.old) (O.Channel.write_faults output.new) }
-    ensures outside_failed { result ≡ status.Outside → Rises (N.faults random.old) (N.faults random.new)
-        ⊎ Rises (S.Holder.faults suite.old) (S.Holder.faults suite.new) }
-    // The keys that the suite held are held still.
-    ensures held { (key : List ℕ) → S.Holder.held suite.old key ≡ true → S.Holder.held suite.new key ≡ true }
-    ensures input { OnlyRead (stream I.Channel input.old) (stream I.Channel input.new) }
-    ensures output { OnlyWritten (stream O.Channel output.old) (stream O.Channel output.new) }
+    // The command that the words name did its work (`Ran`). Where they name none, the status is 2 with its last line, or 7
+    // for `voucher extend` with two words more, and nothing is read, loaded or drawn.
+    // Messages (`Ends`): with 0 and 11 the whole input was read and is the lines of some messages, and what was written is
+    // the lines of the role's answers, each by one step in order; with 11 an answer blames an object, and the last line
+    // names the first one blamed. With 3 nothing is answered, and the last line has the place of the first wrong line.
+    // With 5 a proper front of the answers' lines was written. With 7 nothing is done, or the first messages are answered.
+    // A voucher (`TextEnds`, `ExtendEnds`): with 0 the whole input was read and the text or the longer voucher written,
+    // with 5 a proper front of it, with 9 the line of the refusal, with 3 the place of the fault; with 7 nothing. To
+    // extend one, PRIVATE is loaded first: with 2 it is no key of the suite, with 11 the signer failed, and nothing is read.
+    // With 4 the input failed and with 8 it is too long: there is a last line, and nothing is answered or told.
+    ensures ran { RanWords (signing S.Verifier.verifies S.Signer.algorithm S.Signer.loads) words.now
+        (outside (stream I.Channel input.old) (stream O.Channel output.old)
+        (keys S.Holder suite.old) (drawn N.Random random.old))
+        (outside (stream I.Channel input.new) (stream O.Channel output.new)
+        (keys S.Holder suite.new) (drawn N.Random random.new))
+        result }
+    // Status 2 at words that name a command: its private key is none of the suite's.
+    ensures words { result ≡ status.Words → IfSome (command_said words.now) (Unloadable S.Signer.loads) }
+    // With 0 no call on any object failed; with 4 a read, with 5 a write, with 11 a draw or the signer did. The keys that
+    // the suite held are held still, nothing is written to the input, and nothing is read from the output.
+    ensures outcome { Outcome
+        (outside (stream I.Channel input.old) (stream O.Channel output.old)
+        (keys S.Holder suite.old) (drawn N.Random random.old))
+        (outside (stream I.Channel input.new) (stream O.Channel output.new)
+        (keys S.Holder suite.new) (drawn N.Random random.new))
+        result }
 {
     match Command::of(alloc, words) {
         Ok(Some(command)) => run(alloc, command, input, output, suite, random),
@@ -61,7 +67,7 @@ pub fn fdo<I: Source, O: Sink, S: Suite, N: Random>(
     }
 }
 
-/// Runs a command over these objects of the outside.
+/// Runs a command over these objects of the environment.
 fn run<I: Source, O: Sink, S: Suite, N: Random>(
     alloc: Global,
     command: Command,
@@ -71,8 +77,11 @@ fn run<I: Source, O: Sink, S: Suite, N: Random>(
     random: &mut N,
 ) -> Status
     ensures ran { Ran (signing S.Verifier.verifies S.Signer.algorithm S.Signer.loads) command
-        (outside I.Channel input.old O.Channel output.old S.Holder suite.old N.Random random.old)
-        (outside I.Channel input.new O.Channel output.new S.Holder suite.new N.Random random.new) result }
+        (outside (stream I.Channel input.old) (stream O.Channel output.old)
+        (keys S.Holder suite.old) (drawn N.Random random.old))
+        (outside (stream I.Channel input.new) (stream O.Channel output.new)
+        (keys S.Holder suite.new) (drawn N.Random random.new))
+        result }
     ensures input { OnlyRead (stream I.Channel input.old) (stream I.Channel input.new) }
     ensures output { OnlyWritten (stream O.Channel output.old) (stream O.Channel output.new) }
 {
@@ -86,11 +95,6 @@ fn run<I: Source, O: Sink, S: Suite, N: Random>(
     }
 }
 
-ghost use Rattle.fdo_commands.specs.Ending.{Ends, streams};
-ghost use Rattle.fdo_ports.specs.Draw.{drawn};
-ghost use Rattle.rendezvous.specs.RvState.{RvGivesUp, rv_state};
-ghost use Rattle.rendezvous.specs.RvStep.{RvStep};
-
 /// Answers messages, a line each, as the rendezvous server.
 fn step_rendezvous<I: Source, O: Sink, N: Random>(
     alloc: Global,
@@ -98,11 +102,10 @@ fn step_rendezvous<I: Source, O: Sink, N: Random>(
     output: &mut O,
     random: &mut N,
 ) -> Status
-    ensures ends { Ends RvStep RvGivesUp
-        (rv_state (drawn N.Random random.old))
-        (rv_state (drawn N.Random random.new))
-        (streams I.Channel input.old O.Channel output.old)
-        (streams I.Channel input.new O.Channel output.new) result }
+    ensures ends { Ends rendezvous
+        (lent (rv_state (drawn N.Random random.old)) (stream I.Channel input.old) (stream O.Channel output.old))
+        (lent (rv_state (drawn N.Random random.new)) (stream I.Channel input.new) (stream O.Channel output.new))
+        result }
     ensures input { OnlyRead (stream I.Channel input.old) (stream I.Channel input.new) }
     ensures output { OnlyWritten (stream O.Channel output.old) (stream O.Channel output.new) }
 {
@@ -128,11 +131,10 @@ fn step_handler<I: Source, O: Sink, N: Random>(
     input: &mut I,
     output: &mut O,
 ) -> Status
-    ensures ends { Ends RvStep RvGivesUp
-        (rv_state (drawn N.Random handler.old.random.now))
-        (rv_state (drawn N.Random handler.new.random.now))
-        (streams I.Channel input.old O.Channel output.old)
-        (streams I.Channel input.new O.Channel output.new) result }
+    ensures ends { Ends rendezvous
+        (lent (rv_state (drawn N.Random handler.old.random.now)) (stream I.Channel input.old) (stream O.Channel output.old))
+        (lent (rv_state (drawn N.Random handler.new.random.now)) (stream I.Channel input.new) (stream O.Channel output.new))
+        result }
     ensures same_random { handler.new.random.ghost_name ≡ handler.old.random.ghost_name }
     ensures input { OnlyRead (stream I.Channel input.old) (stream I.Channel input.new) }
     ensures output { OnlyWritten (stream O.Channel output.old) (stream O.Channel output.new) }

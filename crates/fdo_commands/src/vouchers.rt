@@ -3,9 +3,10 @@ ghost use Rattle.suite_port.specs.Keys.{keys};
 ghost use Rattle.fdo_ports.specs.Stream.{OnlyRead, OnlyWritten, stream};
 ghost use Rattle.port_base.specs.Told.{grown};
 ghost use Rattle.fdo_commands.specs.declared.texts.Told.TheVariants as told;
-ghost use Rattle.fdo_commands.specs.Ending.{streams};
+ghost use Rattle.fdo_commands.specs.Ending.{lent};
 ghost use Rattle.fdo_commands.specs.Texts.{TextEnds};
-ghost use Rattle.fdo_commands.specs.Vouchers.{Checks, ChecksFront, Keeps, Shows, asks_until, fault_place as place_of, refused_as, show_of, told_as};
+ghost use Rattle.fdo_commands.specs.Vouchers.{Checks, ChecksFront, checking, showing};
+ghost use Rattle.fdo_commands.specs.Vouchers.{asks_until, fault_place as place_of, refused_as, show_of, told_as};
 ghost use Rattle.voucher_chain.specs.Chain.{checkings, first_break};
 ghost use Rattle.voucher_chain.specs.declared.fault.ChainFault.TheVariants.{NoMemory as OutOfMemory};
 ghost use Rattle.voucher_tool.specs.Check.{check_told};
@@ -29,9 +30,9 @@ pub(crate) fn voucher_show<I: Source, O: Sink>(
     input: &mut I,
     output: &mut O,
 ) -> Status
-    ensures ends { TextEnds {S = Unit {0}} Shows Keeps tt tt
-        (streams I.Channel input.old O.Channel output.old)
-        (streams I.Channel input.new O.Channel output.new) result }
+    ensures ends { TextEnds showing
+        (lent tt (stream I.Channel input.old) (stream O.Channel output.old))
+        (lent tt (stream I.Channel input.new) (stream O.Channel output.new)) result }
     ensures input { OnlyRead (stream I.Channel input.old) (stream I.Channel input.new) }
     ensures output { OnlyWritten (stream O.Channel output.old) (stream O.Channel output.new) }
 {
@@ -48,11 +49,9 @@ pub(crate) fn voucher_check<I: Source, O: Sink, S: Suite>(
     output: &mut O,
     suite: &mut S,
 ) -> Status
-    ensures ends { TextEnds (Checks S.Verifier.verifies) ChecksFront
-        (keys S.Holder suite.old)
-        (keys S.Holder suite.new)
-        (streams I.Channel input.old O.Channel output.old)
-        (streams I.Channel input.new O.Channel output.new) result }
+    ensures ends { TextEnds (checking S.Verifier.verifies)
+        (lent (keys S.Holder suite.old) (stream I.Channel input.old) (stream O.Channel output.old))
+        (lent (keys S.Holder suite.new) (stream I.Channel input.new) (stream O.Channel output.new)) result }
     ensures input { OnlyRead (stream I.Channel input.old) (stream I.Channel input.new) }
     ensures output { OnlyWritten (stream O.Channel output.old) (stream O.Channel output.new) }
 {

@@ -1,8 +1,8 @@
-ghost use Rattle.std.specs.Prelude.{◌≡◌, ◌⊎◌, ℕ, List, true};
-ghost use Rattle.fdo_ports.specs.Stream.{OnlyRead, OnlyWritten, stream};
-ghost use Rattle.fdo_commands.specs.declared.status.Status.TheVariants as status;
-ghost use Rattle.port_base.specs.Count.{Rises};
+ghost use Rattle.fdo_ports.specs.Draw.{drawn};
+ghost use Rattle.fdo_ports.specs.Stream.{stream};
+ghost use Rattle.suite_port.specs.Keys.{keys};
 ghost use Rattle.fdo_commands.specs.Outside.{outside, signing};
+ghost use Rattle.fdo_commands.specs.Ran.{Outcome};
 ghost use Rattle.fdo_program.specs.OwnRun.{RanProgram};
 
 use crate::own_word::OwnWord;
@@ -21,21 +21,22 @@ pub fn answer<I: Source, O: Sink, S: Suite, N: Random>(
     suite: &mut S,
     random: &mut N,
 ) -> Status
+    // An own word has its text written, whole with 0 and a proper front of it with 5, and nothing is read, loaded or drawn.
+    // All other words go to the top call, and what it says (`ran`, `words`) holds.
     ensures ran { RanProgram (signing S.Verifier.verifies S.Signer.algorithm S.Signer.loads) words.now
-        (outside I.Channel input.old O.Channel output.old S.Holder suite.old N.Random random.old)
-        (outside I.Channel input.new O.Channel output.new S.Holder suite.new N.Random random.new) result }
-    ensures done { result ≡ status.Done → (N.faults random.new ≡ N.faults random.old)
-        × (S.Holder.faults suite.new ≡ S.Holder.faults suite.old)
-        × (I.Channel.read_faults input.new ≡ I.Channel.read_faults input.old)
-        × (O.Channel.write_faults output.new ≡ O.Channel.write_faults output.old) }
-    ensures read { result ≡ status.Read → Rises (I.Channel.read_faults input.old) (I.Channel.read_faults input.new) }
-    ensures write { result ≡ status.Write → Rises (O.Channel.write_faults output.old) (O.Channel.write_faults output.new) }
-    ensures outside_failed { result ≡ status.Outside → Rises (N.faults random.old) (N.faults random.new)
-        ⊎ Rises (S.Holder.faults suite.old) (S.Holder.faults suite.new) }
-    // The keys that the suite held are held still.
-    ensures held { (key : List ℕ) → S.Holder.held suite.old key ≡ true → S.Holder.held suite.new key ≡ true }
-    ensures input { OnlyRead (stream I.Channel input.old) (stream I.Channel input.new) }
-    ensures output { OnlyWritten (stream O.Channel output.old) (stream O.Channel output.new) }
+        (outside (stream I.Channel input.old) (stream O.Channel output.old)
+        (keys S.Holder suite.old) (drawn N.Random random.old))
+        (outside (stream I.Channel input.new) (stream O.Channel output.new)
+        (keys S.Holder suite.new) (drawn N.Random random.new))
+        result }
+    // With 0 no call on any object failed; with 4 a read, with 5 a write, with 11 a draw or the signer did. The keys that
+    // the suite held are held still, nothing is written to the input, and nothing is read from the output.
+    ensures outcome { Outcome
+        (outside (stream I.Channel input.old) (stream O.Channel output.old)
+        (keys S.Holder suite.old) (drawn N.Random random.old))
+        (outside (stream I.Channel input.new) (stream O.Channel output.new)
+        (keys S.Holder suite.new) (drawn N.Random random.new))
+        result }
 {
     match OwnWord::of(words) {
         Some(word) => match word.answer(output) {

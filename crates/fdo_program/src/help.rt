@@ -50,20 +50,19 @@ Exit status, and the last line that is written for it
    0  done: the input was read to its end
    2  the words are no command, KEY is no public key, or PRIVATE is no private
       key of the suite: `fault words`
-   3  the input is wrong, and nothing is answered: `fault input N`, where N is
-      the offset of the first wrong line, or of the part of a voucher that is
-      wrong, cut off or holds what is wrong, or of the first byte behind the
-      voucher; the input's length where a part is missing; and 0 where
-      `voucher show` gets more than 255 entries
+   3  the input is wrong, and nothing is answered: `fault input N`. N is the
+      offset of the first wrong line, or of the wrong part of a voucher
    4  reading the input failed: `fault read`
    5  writing the output failed
    7  out of memory
    8  the input has more than 16,777,216 bytes: `fault limit`
    9  the voucher is refused: `refused CAUSE`, and the number of the entry where
-      it has one; for `voucher extend` the new one's. CAUSE is badcerthash,
-      badprevhash, badinfohash, noalgorithm, badsignature, toolong or failed
+      it has one. CAUSE is badcerthash, badprevhash, badinfohash, noalgorithm,
+      badsignature, toolong or failed
   11  the source of random draws failed: `fault random`, or the suite as it
       took the private key: `fault signer`
+
+docs/COMMANDS.md and the manual page fdo(1) say more.
 ";
 
 /// What `--version` writes.

@@ -1,4 +1,4 @@
-//! The program: it makes the real objects of the outside, hands them to the top call, and ends with its status.
+//! The program: it makes the real objects of the environment, hands them to the top call, and ends with its status.
 #![tactic(auto)]
 
 mod answers;

@@ -2,7 +2,7 @@ use cbor_core::{NoMemory, Text};
 use std::rt::Env;
 use std::{env, io};
 
-/// The words behind the program's name. Where one of them is no text, they are no command, as no words are: then
+/// The words after the program's name. Where one of them is no text, they are no command, as no words are: then
 /// there are none.
 pub fn read_words<R: Env + AllocGlobal>(rt: &R) -> Result<Vec<Text>, NoMemory> {
     let mut words = Vec::new(rt.alloc());

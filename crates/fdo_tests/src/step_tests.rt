@@ -12,16 +12,51 @@ const TOKEN: [u8; 16] = [
     16, 17, 18, 19, 20, 21, 22, 23, 24, 25, 26, 27, 28, 29, 30, 31,
 ];
 
-/// One run: the words, the input, how many of the two draws the source has, the number of the read, the write and
-/// the draw that fails, and what has to be written and answered.
-type Case = (
-    &'static str,
-    &'static [u8],
-    usize,
-    [u64; 3],
-    &'static [u8],
-    u8,
-);
+/// Which call fails.
+#[derive(Clone, Copy)]
+enum Fails {
+    Nothing,
+    FirstRead,
+    FirstWrite,
+    SecondWrite,
+    FirstDraw,
+}
+
+impl Fails {
+    fn read(self) -> u64 {
+        match self {
+            Fails::FirstRead => 1,
+            _ => 0,
+        }
+    }
+
+    fn write(self) -> u64 {
+        match self {
+            Fails::FirstWrite => 1,
+            Fails::SecondWrite => 2,
+            _ => 0,
+        }
+    }
+
+    fn draw(self) -> u64 {
+        match self {
+            Fails::FirstDraw => 1,
+            _ => 0,
+        }
+    }
+}
+
+/// One run, with what has to be written and answered.
+#[derive(Clone, Copy)]
+struct Case {
+    words: &'static str,
+    input: &'static [u8],
+    /// How many of the two draws the source has.
+    draws: usize,
+    fails: Fails,
+    written: &'static [u8],
+    status: u8,
+}
 
 const STEP: &str = "step rendezvous";
 
@@ -49,42 +84,102 @@ const WRONG: &[u8] = b"fault input 0\n";
 
 const WRONG_AT_10: &[u8] = b"fault input 10\n";
 
-static CASES: [Case; 35] = [
-    (STEP, b"20 - 80\n", 2, [0, 0, 0], ACK, 0),
-    (STEP, b"20 - 9fff\n", 2, [0, 0, 0], ACK, 0),
-    (STEP, b"20 - 9800\n", 2, [0, 0, 0], ACK, 0),
-    (STEP, b"20 - 9b0000000000000000\n", 2, [0, 0, 0], ACK, 0),
-    (STEP, b"20 token 80\n", 2, [0, 0, 0], ACK, 0),
-    (STEP, b"20 - 8100\n", 2, [0, 0, 0], BODY, 0),
-    (STEP, b"20 - 8080\n", 2, [0, 0, 0], BODY, 0),
-    (STEP, b"20 - 81\n", 2, [0, 0, 0], BODY, 0),
-    (STEP, b"20 - a0\n", 2, [0, 0, 0], BODY, 0),
-    (STEP, b"20 - ff\n", 2, [0, 0, 0], BODY, 0),
-    (STEP, b"20 - 8100\n20 - 8080\n", 2, [0, 0, 0], TWICE, 0),
-    (STEP, b"21 - 80\n", 2, [0, 0, 0], TURN, 0),
-    (STEP, b"0 a 00\n", 2, [0, 0, 0], TURN_OF_0, 0),
-    (STEP, b"254 - 00\n", 2, [0, 0, 0], TURN_OF_254, 0),
-    (STEP, b"255 - 80\n", 2, [0, 0, 0], b"ended\n", 0),
-    (STEP, b"", 2, [0, 0, 0], b"", 0),
-    (STEP, b"20 - 80", 2, [0, 0, 0], WRONG, 3),
-    (STEP, b"20 - 8100\n20 - 80", 2, [0, 0, 0], WRONG_AT_10, 3),
-    (STEP, b"20 - 8100\n\n", 2, [0, 0, 0], WRONG_AT_10, 3),
-    (STEP, b"020 - 80\n", 2, [0, 0, 0], WRONG, 3),
-    (STEP, b"256 - 80\n", 2, [0, 0, 0], WRONG, 3),
-    (STEP, b"20 - 8A\n", 2, [0, 0, 0], WRONG, 3),
-    (STEP, b"20 - \n", 2, [0, 0, 0], WRONG, 3),
-    (STEP, b"20 - 8\n", 2, [0, 0, 0], WRONG, 3),
-    (STEP, b"20  80\n", 2, [0, 0, 0], WRONG, 3),
-    (STEP, b"20 - 80 \n", 2, [0, 0, 0], WRONG, 3),
-    (STEP, b"20 - 80\r\n", 2, [0, 0, 0], WRONG, 3),
-    ("frob", b"20 - 80\n", 2, [0, 0, 0], WORDS, 2),
-    ("step rendezvous x", b"", 2, [0, 0, 0], WORDS, 2),
-    (STEP, b"20 - 80\n", 0, [0, 0, 0], NO_DRAW, 11),
-    (STEP, b"20 - 80\n", 1, [0, 0, 0], NO_DRAW, 11),
-    (STEP, b"20 - 80\n20 - 80\n", 2, [0, 0, 1], NO_FIRST_DRAW, 11),
-    (STEP, b"20 - 80\n", 2, [1, 0, 0], b"fault read\n", 4),
-    (STEP, b"20 - 80\n", 2, [0, 1, 0], b"", 5),
-    (STEP, b"20 - 8100\n20 - 8100\n", 2, [0, 2, 0], BODY, 5),
+/// Inputs of `step rendezvous`, with what is written where nothing fails, and the status.
+static INPUTS: [(&'static [u8], &'static [u8], u8); 27] = [
+    (b"20 - 80\n", ACK, 0),
+    (b"20 - 9fff\n", ACK, 0),
+    (b"20 - 9800\n", ACK, 0),
+    (b"20 - 9b0000000000000000\n", ACK, 0),
+    (b"20 token 80\n", ACK, 0),
+    (b"20 - 8100\n", BODY, 0),
+    (b"20 - 8080\n", BODY, 0),
+    (b"20 - 81\n", BODY, 0),
+    (b"20 - a0\n", BODY, 0),
+    (b"20 - ff\n", BODY, 0),
+    (b"20 - 8100\n20 - 8080\n", TWICE, 0),
+    (b"21 - 80\n", TURN, 0),
+    (b"0 a 00\n", TURN_OF_0, 0),
+    (b"254 - 00\n", TURN_OF_254, 0),
+    (b"255 - 80\n", b"ended\n", 0),
+    (b"", b"", 0),
+    (b"20 - 80", WRONG, 3),
+    (b"20 - 8100\n20 - 80", WRONG_AT_10, 3),
+    (b"20 - 8100\n\n", WRONG_AT_10, 3),
+    (b"020 - 80\n", WRONG, 3),
+    (b"256 - 80\n", WRONG, 3),
+    (b"20 - 8A\n", WRONG, 3),
+    (b"20 - \n", WRONG, 3),
+    (b"20 - 8\n", WRONG, 3),
+    (b"20  80\n", WRONG, 3),
+    (b"20 - 80 \n", WRONG, 3),
+    (b"20 - 80\r\n", WRONG, 3),
+];
+
+static CASES: [Case; 8] = [
+    Case {
+        words: "frob",
+        input: b"20 - 80\n",
+        draws: 2,
+        fails: Fails::Nothing,
+        written: WORDS,
+        status: 2,
+    },
+    Case {
+        words: "step rendezvous x",
+        input: b"",
+        draws: 2,
+        fails: Fails::Nothing,
+        written: WORDS,
+        status: 2,
+    },
+    Case {
+        words: STEP,
+        input: b"20 - 80\n",
+        draws: 0,
+        fails: Fails::Nothing,
+        written: NO_DRAW,
+        status: 11,
+    },
+    Case {
+        words: STEP,
+        input: b"20 - 80\n",
+        draws: 1,
+        fails: Fails::Nothing,
+        written: NO_DRAW,
+        status: 11,
+    },
+    Case {
+        words: STEP,
+        input: b"20 - 80\n20 - 80\n",
+        draws: 2,
+        fails: Fails::FirstDraw,
+        written: NO_FIRST_DRAW,
+        status: 11,
+    },
+    Case {
+        words: STEP,
+        input: b"20 - 80\n",
+        draws: 2,
+        fails: Fails::FirstRead,
+        written: b"fault read\n",
+        status: 4,
+    },
+    Case {
+        words: STEP,
+        input: b"20 - 80\n",
+        draws: 2,
+        fails: Fails::FirstWrite,
+        written: b"",
+        status: 5,
+    },
+    Case {
+        words: STEP,
+        input: b"20 - 8100\n20 - 8100\n",
+        draws: 2,
+        fails: Fails::SecondWrite,
+        written: BODY,
+        status: 5,
+    },
 ];
 
 fn words(alloc: Global, text: &str) -> Result<Vec<Text>, AllocError> {
@@ -132,12 +227,15 @@ fn pieces(alloc: Global, input: &[u8], cut: bool) -> Result<Vec<Vec<u8>>, AllocE
 
 /// What a run writes, and how it ends.
 fn run(alloc: Global, case: &Case, cut: bool) -> Result<(Vec<u8>, u8), AllocError> {
-    let [read, write, draw] = case.3;
-    let words = words(alloc, case.0)?;
-    let mut input = MemorySource::new(pieces(alloc, case.1, cut)?, numbers(alloc, read)?);
-    let mut output = MemorySink::new(Vec::new(alloc), numbers(alloc, write)?);
+    let fails = case.fails;
+    let words = words(alloc, case.words)?;
+    let mut input = MemorySource::new(
+        pieces(alloc, case.input, cut)?,
+        numbers(alloc, fails.read())?,
+    );
+    let mut output = MemorySink::new(Vec::new(alloc), numbers(alloc, fails.write())?);
     let mut suite = LabSuite::new(Vec::new(alloc));
-    let mut random = ListRandom::new(draws(alloc, case.2)?, numbers(alloc, draw)?);
+    let mut random = ListRandom::new(draws(alloc, case.draws)?, numbers(alloc, fails.draw())?);
     let status = fdo(
         alloc,
         words.as_slice(),
@@ -151,11 +249,31 @@ fn run(alloc: Global, case: &Case, cut: bool) -> Result<(Vec<u8>, u8), AllocErro
 
 #[test]
 fn answers_are_those_of_the_standard(rt: HostRuntime) -> Result<(), AllocError> {
+    for (input, written, status) in &INPUTS {
+        let case = Case {
+            words: STEP,
+            input: *input,
+            draws: 2,
+            fails: Fails::Nothing,
+            written: *written,
+            status: *status,
+        };
+        for cut in [false, true] {
+            let (output, status) = run(rt.alloc(), &case, cut)?;
+            assert_eq!(rt; output.as_slice(), case.written);
+            assert_eq!(rt; status, case.status);
+        }
+    }
+    Ok(())
+}
+
+#[test]
+fn other_words_and_failed_calls_end_so(rt: HostRuntime) -> Result<(), AllocError> {
     for case in &CASES {
         for cut in [false, true] {
             let (output, status) = run(rt.alloc(), case, cut)?;
-            assert_eq!(rt; output.as_slice(), case.4);
-            assert_eq!(rt; status, case.5);
+            assert_eq!(rt; output.as_slice(), case.written);
+            assert_eq!(rt; status, case.status);
         }
     }
     Ok(())
@@ -212,7 +330,7 @@ fn ends_at_once(alloc: Global, text: &str) -> Result<bool, AllocError> {
 static READERS: [&'static str; 3] = ["step rendezvous", "voucher show", "voucher check"];
 
 #[test]
-fn nothing_is_read_behind_a_failed_read(rt: HostRuntime) -> Result<(), AllocError> {
+fn nothing_is_read_after_a_failed_read(rt: HostRuntime) -> Result<(), AllocError> {
     for text in &READERS {
         assert!(rt; ends_at_once(rt.alloc(), text)?, "{text}");
     }

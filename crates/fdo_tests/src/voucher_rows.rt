@@ -1,4 +1,4 @@
-//! Vouchers, of `examples` and of `crates/fdo_program/vouchers/cases.txt`, and what is said of them there.
+//! Vouchers, of `examples` and of `model/lines/cases.txt`, and what is said of them there.
 
 /// A voucher of the laboratory suite without entries, `examples/lab0.voucher`.
 pub(crate) const EMPTY: &str =

@@ -7,7 +7,7 @@ use std::alloc::Global;
 use std::test::Fail;
 use suite_port::LabSuite;
 
-/// A voucher of the laboratory suite with one entry, made by `crates/fdo_program/vouchers/make.py`.
+/// A voucher of the laboratory suite with one entry, of a case in `model/lines/cases.txt`.
 const VOUCHER: &str =
     "851865584386186550000102030405060708090a0b0c0d0e0f80636c61628318c8004101822f58202b9cc1fe9432c948fc0d35cded0df39155763f92cd6b0ffb7ca024a29c7b63bb820558201986797edeeb5e81d69e4ce48ea5c4f43ad4be5bd6b8dad49f001fa6cfbb2833815246444f2d4c41422d434552548318c800410381d28447a1013a00010000a0585084822f5820113ecaf0a7332cf35eac3eec1639383563fd6047151a0b6398010371cfb3cf40822f5820ab280928afbd5b1d26551589aca8c572262397cda2e611791d092ef9d8520dfef68318c80041025820b55e4ee96aa60319fb28292ceb3d94bd4f5203545ea14774079ff053a5cb890f";
 
@@ -34,251 +34,335 @@ const LONG: &str = "020202020202020202020202020202020202020202020202020202020202
 const ENTRY: &str =
     "d28447a1013a00010000a0585084822f5820ed45a4d121dd3a418cb8ed996176402b892c5e3d605a91d5806dbd81d730b55a822f5820ab280928afbd5b1d26551589aca8c572262397cda2e611791d092ef9d8520dfef68318c8004106582022f475f869185ddcd576ada196f435d921d18b7f946b9d8f42cbfcf7489eaa54";
 
-/// One run: the command, its KEY and PRIVATE, the place of a byte whose last bit is changed, how many of the voucher's
-/// bytes are the input, the numbers of the read, the write and the call of the signer that fail, and what has to be written
-/// and answered.
-type Case = (
-    &'static str,
-    Option<[&'static str; 2]>,
-    Option<usize>,
-    usize,
-    [u64; 3],
-    &'static [u8],
-    Status,
-);
+/// Which calls fail: the first read, the first write, or the signer's first or second one.
+#[derive(Clone, Copy)]
+enum Fails {
+    Nothing,
+    Read,
+    Write,
+    Load,
+    Sign,
+    ReadAndLoad,
+}
+
+impl Fails {
+    fn read(self) -> u64 {
+        match self {
+            Fails::Read | Fails::ReadAndLoad => 1,
+            _ => 0,
+        }
+    }
+
+    fn write(self) -> u64 {
+        match self {
+            Fails::Write => 1,
+            _ => 0,
+        }
+    }
+
+    fn signer(self) -> u64 {
+        match self {
+            Fails::Load | Fails::ReadAndLoad => 1,
+            Fails::Sign => 2,
+            _ => 0,
+        }
+    }
+}
+
+/// One run.
+struct Case {
+    command: &'static str,
+    /// KEY and PRIVATE.
+    keys: Option<[&'static str; 2]>,
+    /// The place of a byte whose last bit is changed.
+    changed: Option<usize>,
+    /// How many of the voucher's bytes are the input.
+    count: usize,
+    fails: Fails,
+    written: &'static [u8],
+    status: Status,
+}
 
 static CASES: [Case; 31] = [
-    ("show", None, None, 256, [0, 0, 0], SHOWN, Status::Done),
-    ("check", None, None, 256, [0, 0, 0], CHECKED, Status::Done),
-    ("show", None, Some(240), 256, [0, 0, 0], SHOWN, Status::Done),
-    (
-        "check",
-        None,
-        Some(9),
-        256,
-        [0, 0, 0],
-        b"refused badprevhash 0\n",
-        Status::Refused,
-    ),
-    (
-        "check",
-        None,
-        Some(240),
-        256,
-        [0, 0, 0],
-        b"refused badsignature 0\n",
-        Status::Refused,
-    ),
-    ("check", None, Some(9), 256, [0, 1, 0], b"", Status::Refused),
-    (
-        "show",
-        None,
-        None,
-        4,
-        [0, 0, 0],
-        b"fault input 3\n",
-        Status::Input,
-    ),
-    (
-        "check",
-        None,
-        None,
-        4,
-        [0, 0, 0],
-        b"fault input 3\n",
-        Status::Input,
-    ),
-    (
-        "show",
-        None,
-        None,
-        0,
-        [0, 0, 0],
-        b"fault input 0\n",
-        Status::Input,
-    ),
-    (
-        "check",
-        None,
-        None,
-        0,
-        [0, 0, 0],
-        b"fault input 0\n",
-        Status::Input,
-    ),
-    ("show", None, None, 256, [0, 1, 0], b"", Status::Write),
-    ("check", None, None, 256, [0, 1, 0], b"", Status::Write),
-    (
-        "show",
-        None,
-        None,
-        256,
-        [1, 0, 0],
-        b"fault read\n",
-        Status::Read,
-    ),
-    (
-        "check",
-        None,
-        None,
-        256,
-        [1, 0, 0],
-        b"fault read\n",
-        Status::Read,
-    ),
-    (
-        "shown",
-        None,
-        None,
-        256,
-        [0, 0, 0],
-        b"fault words\n",
-        Status::Words,
-    ),
-    (
-        "extend",
-        Some([NEXT, "04"]),
-        None,
-        256,
-        [0, 0, 0],
-        b"refused badsignature 1\n",
-        Status::Refused,
-    ),
-    (
-        "extend",
-        Some([NEXT, "0202"]),
-        None,
-        256,
-        [0, 0, 0],
-        b"refused badsignature 1\n",
-        Status::Refused,
-    ),
-    (
-        "extend",
-        Some([NEXT, "02"]),
-        None,
-        256,
-        [0, 0, 1],
-        b"fault signer\n",
-        Status::Outside,
-    ),
-    (
-        "extend",
-        Some([NEXT, "02"]),
-        None,
-        256,
-        [0, 0, 2],
-        b"refused failed\n",
-        Status::Refused,
-    ),
-    (
-        "extend",
-        Some([NEXT, "02"]),
-        None,
-        256,
-        [0, 1, 0],
-        b"",
-        Status::Write,
-    ),
-    (
-        "extend",
-        Some([NEXT, "02"]),
-        None,
-        256,
-        [1, 0, 0],
-        b"fault read\n",
-        Status::Read,
-    ),
-    (
-        "extend",
-        Some([NEXT, "02"]),
-        None,
-        4,
-        [0, 0, 0],
-        b"fault input 3\n",
-        Status::Input,
-    ),
-    (
-        "extend",
-        Some([NEXT, "02"]),
-        None,
-        0,
-        [0, 0, 0],
-        b"fault input 0\n",
-        Status::Input,
-    ),
-    (
-        "extend",
-        Some([NEXT, ""]),
-        None,
-        256,
-        [1, 0, 1],
-        b"fault words\n",
-        Status::Words,
-    ),
-    (
-        "extend",
-        Some([NEXT, "2"]),
-        None,
-        256,
-        [1, 0, 1],
-        b"fault words\n",
-        Status::Words,
-    ),
-    (
-        "extend",
-        Some([NEXT, LONG]),
-        None,
-        256,
-        [1, 0, 0],
-        b"fault words\n",
-        Status::Words,
-    ),
-    (
-        "extend",
-        Some(["", "02"]),
-        None,
-        256,
-        [1, 0, 1],
-        b"fault words\n",
-        Status::Words,
-    ),
-    (
-        "extend",
-        Some(["8318c800410600", "02"]),
-        None,
-        256,
-        [1, 0, 1],
-        b"fault words\n",
-        Status::Words,
-    ),
-    (
-        "extend",
-        Some(["8309004106", "02"]),
-        None,
-        256,
-        [1, 0, 1],
-        b"fault words\n",
-        Status::Words,
-    ),
-    (
-        "extend",
-        None,
-        None,
-        256,
-        [1, 0, 1],
-        b"fault words\n",
-        Status::Words,
-    ),
-    (
-        "check",
-        Some([NEXT, "02"]),
-        None,
-        256,
-        [1, 0, 1],
-        b"fault words\n",
-        Status::Words,
-    ),
+    Case {
+        command: "show",
+        keys: None,
+        changed: None,
+        count: 256,
+        fails: Fails::Nothing,
+        written: SHOWN,
+        status: Status::Done,
+    },
+    Case {
+        command: "check",
+        keys: None,
+        changed: None,
+        count: 256,
+        fails: Fails::Nothing,
+        written: CHECKED,
+        status: Status::Done,
+    },
+    Case {
+        command: "show",
+        keys: None,
+        changed: Some(240),
+        count: 256,
+        fails: Fails::Nothing,
+        written: SHOWN,
+        status: Status::Done,
+    },
+    Case {
+        command: "check",
+        keys: None,
+        changed: Some(9),
+        count: 256,
+        fails: Fails::Nothing,
+        written: b"refused badprevhash 0\n",
+        status: Status::Refused,
+    },
+    Case {
+        command: "check",
+        keys: None,
+        changed: Some(240),
+        count: 256,
+        fails: Fails::Nothing,
+        written: b"refused badsignature 0\n",
+        status: Status::Refused,
+    },
+    Case {
+        command: "check",
+        keys: None,
+        changed: Some(9),
+        count: 256,
+        fails: Fails::Write,
+        written: b"",
+        status: Status::Refused,
+    },
+    Case {
+        command: "show",
+        keys: None,
+        changed: None,
+        count: 4,
+        fails: Fails::Nothing,
+        written: b"fault input 3\n",
+        status: Status::Input,
+    },
+    Case {
+        command: "check",
+        keys: None,
+        changed: None,
+        count: 4,
+        fails: Fails::Nothing,
+        written: b"fault input 3\n",
+        status: Status::Input,
+    },
+    Case {
+        command: "show",
+        keys: None,
+        changed: None,
+        count: 0,
+        fails: Fails::Nothing,
+        written: b"fault input 0\n",
+        status: Status::Input,
+    },
+    Case {
+        command: "check",
+        keys: None,
+        changed: None,
+        count: 0,
+        fails: Fails::Nothing,
+        written: b"fault input 0\n",
+        status: Status::Input,
+    },
+    Case {
+        command: "show",
+        keys: None,
+        changed: None,
+        count: 256,
+        fails: Fails::Write,
+        written: b"",
+        status: Status::Write,
+    },
+    Case {
+        command: "check",
+        keys: None,
+        changed: None,
+        count: 256,
+        fails: Fails::Write,
+        written: b"",
+        status: Status::Write,
+    },
+    Case {
+        command: "show",
+        keys: None,
+        changed: None,
+        count: 256,
+        fails: Fails::Read,
+        written: b"fault read\n",
+        status: Status::Read,
+    },
+    Case {
+        command: "check",
+        keys: None,
+        changed: None,
+        count: 256,
+        fails: Fails::Read,
+        written: b"fault read\n",
+        status: Status::Read,
+    },
+    Case {
+        command: "shown",
+        keys: None,
+        changed: None,
+        count: 256,
+        fails: Fails::Nothing,
+        written: b"fault words\n",
+        status: Status::Words,
+    },
+    Case {
+        command: "extend",
+        keys: Some([NEXT, "04"]),
+        changed: None,
+        count: 256,
+        fails: Fails::Nothing,
+        written: b"refused badsignature 1\n",
+        status: Status::Refused,
+    },
+    Case {
+        command: "extend",
+        keys: Some([NEXT, "0202"]),
+        changed: None,
+        count: 256,
+        fails: Fails::Nothing,
+        written: b"refused badsignature 1\n",
+        status: Status::Refused,
+    },
+    Case {
+        command: "extend",
+        keys: Some([NEXT, "02"]),
+        changed: None,
+        count: 256,
+        fails: Fails::Load,
+        written: b"fault signer\n",
+        status: Status::Outside,
+    },
+    Case {
+        command: "extend",
+        keys: Some([NEXT, "02"]),
+        changed: None,
+        count: 256,
+        fails: Fails::Sign,
+        written: b"refused failed\n",
+        status: Status::Refused,
+    },
+    Case {
+        command: "extend",
+        keys: Some([NEXT, "02"]),
+        changed: None,
+        count: 256,
+        fails: Fails::Write,
+        written: b"",
+        status: Status::Write,
+    },
+    Case {
+        command: "extend",
+        keys: Some([NEXT, "02"]),
+        changed: None,
+        count: 256,
+        fails: Fails::Read,
+        written: b"fault read\n",
+        status: Status::Read,
+    },
+    Case {
+        command: "extend",
+        keys: Some([NEXT, "02"]),
+        changed: None,
+        count: 4,
+        fails: Fails::Nothing,
+        written: b"fault input 3\n",
+        status: Status::Input,
+    },
+    Case {
+        command: "extend",
+        keys: Some([NEXT, "02"]),
+        changed: None,
+        count: 0,
+        fails: Fails::Nothing,
+        written: b"fault input 0\n",
+        status: Status::Input,
+    },
+    Case {
+        command: "extend",
+        keys: Some([NEXT, ""]),
+        changed: None,
+        count: 256,
+        fails: Fails::ReadAndLoad,
+        written: b"fault words\n",
+        status: Status::Words,
+    },
+    Case {
+        command: "extend",
+        keys: Some([NEXT, "2"]),
+        changed: None,
+        count: 256,
+        fails: Fails::ReadAndLoad,
+        written: b"fault words\n",
+        status: Status::Words,
+    },
+    Case {
+        command: "extend",
+        keys: Some([NEXT, LONG]),
+        changed: None,
+        count: 256,
+        fails: Fails::Read,
+        written: b"fault words\n",
+        status: Status::Words,
+    },
+    Case {
+        command: "extend",
+        keys: Some(["", "02"]),
+        changed: None,
+        count: 256,
+        fails: Fails::ReadAndLoad,
+        written: b"fault words\n",
+        status: Status::Words,
+    },
+    Case {
+        command: "extend",
+        keys: Some(["8318c800410600", "02"]),
+        changed: None,
+        count: 256,
+        fails: Fails::ReadAndLoad,
+        written: b"fault words\n",
+        status: Status::Words,
+    },
+    Case {
+        command: "extend",
+        keys: Some(["8309004106", "02"]),
+        changed: None,
+        count: 256,
+        fails: Fails::ReadAndLoad,
+        written: b"fault words\n",
+        status: Status::Words,
+    },
+    Case {
+        command: "extend",
+        keys: None,
+        changed: None,
+        count: 256,
+        fails: Fails::ReadAndLoad,
+        written: b"fault words\n",
+        status: Status::Words,
+    },
+    Case {
+        command: "check",
+        keys: Some([NEXT, "02"]),
+        changed: None,
+        count: 256,
+        fails: Fails::ReadAndLoad,
+        written: b"fault words\n",
+        status: Status::Words,
+    },
 ];
 
 fn numbers(alloc: Global, number: u64) -> Result<Vec<u64>, Fail> {
@@ -323,14 +407,13 @@ fn run(
     alloc: Global,
     words: &[Text],
     input: Vec<u8>,
-    fails: [u64; 3],
+    fails: Fails,
 ) -> Result<(Vec<u8>, Status), Fail> {
-    let [read, write, sign] = fails;
     let mut pieces = Vec::new(alloc);
     pieces.push(input)?;
-    let mut input = MemorySource::new(pieces, numbers(alloc, read)?);
-    let mut output = MemorySink::new(Vec::new(alloc), numbers(alloc, write)?);
-    let mut suite = LabSuite::new(numbers(alloc, sign)?);
+    let mut input = MemorySource::new(pieces, numbers(alloc, fails.read())?);
+    let mut output = MemorySink::new(Vec::new(alloc), numbers(alloc, fails.write())?);
+    let mut suite = LabSuite::new(numbers(alloc, fails.signer())?);
     let mut random = ListRandom::new(Vec::new(alloc), Vec::new(alloc));
     let status = fdo(
         alloc,
@@ -345,12 +428,12 @@ fn run(
 
 #[test]
 fn vouchers_are_shown_checked_and_refused(rt: HostRuntime) -> Result<(), Fail> {
-    for (command, more, changed, count, fails, wanted, status) in &CASES {
-        let words = words_of(rt.alloc(), command, more)?;
-        let input = input_of(rt.alloc(), *changed, *count)?;
-        let (output, ended) = run(rt.alloc(), words.as_slice(), input, *fails)?;
-        assert_eq!(rt; output.as_slice(), *wanted);
-        assert_eq!(rt; ended, *status);
+    for case in &CASES {
+        let words = words_of(rt.alloc(), case.command, &case.keys)?;
+        let input = input_of(rt.alloc(), case.changed, case.count)?;
+        let (output, ended) = run(rt.alloc(), words.as_slice(), input, case.fails)?;
+        assert_eq!(rt; output.as_slice(), case.written);
+        assert_eq!(rt; ended, case.status);
     }
     Ok(())
 }
@@ -374,45 +457,62 @@ static OWNERS: Option<[&'static str; 2]> = Some([NEXT, "02"]);
 fn a_voucher_is_extended(rt: HostRuntime) -> Result<(), Fail> {
     let words = words_of(rt.alloc(), "extend", &OWNERS)?;
     let input = input_of(rt.alloc(), None, 256)?;
-    let (output, ended) = run(rt.alloc(), words.as_slice(), input, [0, 0, 0])?;
+    let (output, ended) = run(rt.alloc(), words.as_slice(), input, Fails::Nothing)?;
     assert_eq!(rt; output.as_slice(), longer(rt.alloc())?.as_slice());
     assert_eq!(rt; ended, Status::Done);
     Ok(())
 }
 
-/// Other vouchers: the command, the voucher's digits, and what has to be written and answered.
-static OTHERS: [(&'static str, &'static str, &'static [u8], Status); 5] = [
-    (
-        "check",
-        EMPTY,
-        b"ok 0 owner dc9f31d8cb902bb8ccf36cbee60fff0a0fff00fb43b623cac2fe31e53d34d455\n",
-        Status::Done,
-    ),
-    (
-        "check",
-        WIDE_TAG,
-        b"ok 3 owner b01f26c57aad37bfef506113a8f87d8d8c354dfcbacf476763d81fc22413d79c\n",
-        Status::Done,
-    ),
-    (
-        "check",
-        WIDE_TAG_OVERLOOKED,
-        b"refused badprevhash 1\n",
-        Status::Refused,
-    ),
-    ("check", P256, b"refused noalgorithm 0\n", Status::Refused),
-    ("show", P256, P256_SHOWN, Status::Done),
+/// A run over another voucher, which is given by its digits.
+struct Other {
+    command: &'static str,
+    digits: &'static str,
+    written: &'static [u8],
+    status: Status,
+}
+
+static OTHERS: [Other; 5] = [
+    Other {
+        command: "check",
+        digits: EMPTY,
+        written: b"ok 0 owner dc9f31d8cb902bb8ccf36cbee60fff0a0fff00fb43b623cac2fe31e53d34d455\n",
+        status: Status::Done,
+    },
+    Other {
+        command: "check",
+        digits: WIDE_TAG,
+        written: b"ok 3 owner b01f26c57aad37bfef506113a8f87d8d8c354dfcbacf476763d81fc22413d79c\n",
+        status: Status::Done,
+    },
+    Other {
+        command: "check",
+        digits: WIDE_TAG_OVERLOOKED,
+        written: b"refused badprevhash 1\n",
+        status: Status::Refused,
+    },
+    Other {
+        command: "check",
+        digits: P256,
+        written: b"refused noalgorithm 0\n",
+        status: Status::Refused,
+    },
+    Other {
+        command: "show",
+        digits: P256,
+        written: P256_SHOWN,
+        status: Status::Done,
+    },
 ];
 
 /// No entries; a hash is that of the bytes as they stand; and keys of which the suite has no algorithm.
 #[test]
 fn other_vouchers_are_shown_and_checked(rt: HostRuntime) -> Result<(), Fail> {
-    for (command, digits, wanted, status) in &OTHERS {
-        let words = words_of(rt.alloc(), command, &None)?;
-        let input = hex::decode(rt.alloc(), digits)?;
-        let (output, ended) = run(rt.alloc(), words.as_slice(), input, [0, 0, 0])?;
-        assert_eq!(rt; output.as_slice(), *wanted);
-        assert_eq!(rt; ended, *status);
+    for other in &OTHERS {
+        let words = words_of(rt.alloc(), other.command, &None)?;
+        let input = hex::decode(rt.alloc(), other.digits)?;
+        let (output, ended) = run(rt.alloc(), words.as_slice(), input, Fails::Nothing)?;
+        assert_eq!(rt; output.as_slice(), other.written);
+        assert_eq!(rt; ended, other.status);
     }
     Ok(())
 }
@@ -445,7 +545,7 @@ fn a_full_voucher_is_refused(rt: HostRuntime) -> Result<(), Fail> {
         let words = words_of(rt.alloc(), command, more)?;
         let input = full(rt.alloc())?;
         assert_eq!(rt; input.len(), 32515);
-        let (output, ended) = run(rt.alloc(), words.as_slice(), input, [0, 0, 0])?;
+        let (output, ended) = run(rt.alloc(), words.as_slice(), input, Fails::Nothing)?;
         assert_eq!(rt; output.as_slice(), *wanted);
         assert_eq!(rt; ended, Status::Refused);
     }

@@ -1,5 +1,5 @@
 use Rattle.fdo_commands.specs.Outside.{signing}
-use Rattle.fdo_commands.proofs.ExtendMore.{refused_extends}
+use Rattle.fdo_commands.proofs.ExtendEndings.{refused_extends}
 use Rattle.fdo_commands.proofs.extending.extend_bytes.Goals as goal
 
 pub returns-in-Err : goal.returns-in-Err

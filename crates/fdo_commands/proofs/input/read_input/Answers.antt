@@ -1,5 +1,5 @@
 use Rattle.std.proofs.Common.{◌++◌}
-use Rattle.fdo_commands.proofs.TookMore.{took_more}
+use Rattle.fdo_commands.proofs.BytesTaken.{took_more}
 use Rattle.fdo_commands.proofs.input.read_input.Goals as goal
 
 pub returns-then-is_err-clause-bytes : goal.returns-then-is_err-clause-bytes

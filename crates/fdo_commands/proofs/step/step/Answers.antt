@@ -1,14 +1,23 @@
 use Rattle.std.proofs.Common.{refl, subst, sym}
+use Rattle.fdo_commands.specs.Answering.{role}
+use Rattle.fdo_ports.specs.Stream.{stream}
+use Rattle.fdo_commands.specs.Ending.{lent}
 use Rattle.fdo_commands.specs.Stream.{TookAll}
-use Rattle.fdo_commands.proofs.EndingMore.{read_ends, unread_ends}
+use Rattle.fdo_commands.proofs.StepEndings.{read_ends, unread_ends}
 use Rattle.fdo_commands.proofs.step.step.Goals as goal
 
 pub returns-in-Ok-clause-ends : goal.returns-in-Ok-clause-ends
 returns-in-Ok-clause-ends g c =
     let left = g.I.Channel.left in
     let took = subst (TookAll (left c.args.input.now) (left c.read_input.new.input)) (sym c.as_slice.ensures.value) c.in-Ok.ensures.bytes in
-    read_ends g.H.Handler.Steps g.H.Handler.GivesUp _ _ _ _ c.as_slice.result.now took c.in-Ok.ensures.faults c.answer_bytes.result c.answer_bytes.ensures.answers
+    read_ends (role g.H.Handler.Steps g.H.Handler.GivesUp)
+    (lent (g.H.Handler.state c.args.handler.now) (stream g.I.Channel c.args.input.now) (stream g.O.Channel c.args.output.now))
+    (lent (g.H.Handler.state c.answer_bytes.new.handler) (stream g.I.Channel c.read_input.new.input) (stream g.O.Channel c.answer_bytes.new.output))
+    c.as_slice.result.now took c.in-Ok.ensures.faults c.answer_bytes.result c.answer_bytes.ensures.answers
 
 pub returns-in-Err-clause-ends : goal.returns-in-Err-clause-ends
 returns-in-Err-clause-ends g c =
-    unread_ends g.H.Handler.Steps g.H.Handler.GivesUp _ _ _ _ refl c.in-Err.fault c.in-Err.ensures.bytes c.in-Err.ensures.faults c.end_unread.result c.end_unread.ensures.fails
+    unread_ends (role g.H.Handler.Steps g.H.Handler.GivesUp)
+    (lent (g.H.Handler.state c.args.handler.now) (stream g.I.Channel c.args.input.now) (stream g.O.Channel c.args.output.now))
+    (lent (g.H.Handler.state c.args.handler.now) (stream g.I.Channel c.read_input.new.input) (stream g.O.Channel c.end_unread.new.output))
+    refl c.in-Err.fault c.in-Err.ensures.bytes c.in-Err.ensures.faults c.end_unread.result c.end_unread.ensures.fails

@@ -1,6 +1,6 @@
 use Rattle.std.proofs.Common.{refl}
 use Rattle.fdo_commands.specs.Outside.{signing}
-use Rattle.fdo_commands.proofs.RanMore.{ran_step}
+use Rattle.fdo_commands.proofs.Outcomes.{ran_step}
 use Rattle.fdo_commands.proofs.top.run.Goals as goal
 
 pub returns-in-StepRendezvous-clause-ran : goal.returns-in-StepRendezvous-clause-ran

@@ -1,5 +1,5 @@
 use Rattle.std.proofs.Common.{[], inl, refl}
-use Rattle.fdo_commands.proofs.TookMore.{took_nothing}
+use Rattle.fdo_commands.proofs.BytesTaken.{took_nothing}
 use Rattle.fdo_commands.proofs.top.step_rendezvous.Goals as goal
 
 pub returns-in_default-clause-ends : goal.returns-in_default-clause-ends

@@ -1,5 +1,5 @@
 use Rattle.std.proofs.Common.{refl}
-use Rattle.fdo_commands.proofs.ChecksMore.{read_checks, unread_checks}
+use Rattle.fdo_commands.proofs.CheckAsks.{read_checks, unread_checks}
 use Rattle.fdo_commands.proofs.vouchers.check_bytes.Goals as goal
 
 pub returns-in-Ok : goal.returns-in-Ok

@@ -1,4 +1,4 @@
-use Rattle.fdo_commands.proofs.ChecksMore.{checked_refused, checked_text}
+use Rattle.fdo_commands.proofs.CheckAsks.{checked_refused, checked_text}
 use Rattle.fdo_commands.proofs.vouchers.checked.Goals as goal
 
 pub returns-in-Ok-clause-asked : goal.returns-in-Ok-clause-asked

@@ -1,16 +1,24 @@
 use Rattle.std.proofs.Common.{refl, subst, sym}
+use Rattle.fdo_ports.specs.Stream.{stream}
+use Rattle.fdo_commands.specs.Ending.{lent}
 use Rattle.fdo_commands.specs.Stream.{TookAll}
-use Rattle.fdo_commands.specs.Vouchers.{Keeps, Shows}
-use Rattle.fdo_commands.proofs.TextsMore.{found_ends, unread_ends}
-use Rattle.fdo_commands.proofs.ChecksMore.{found_shown}
+use Rattle.fdo_commands.specs.Vouchers.{showing}
+use Rattle.fdo_commands.proofs.TextEndings.{found_ends, unread_ends}
+use Rattle.fdo_commands.proofs.CheckAsks.{found_shown}
 use Rattle.fdo_commands.proofs.vouchers.voucher_show.Goals as goal
 
 pub returns-in-Ok-clause-ends : goal.returns-in-Ok-clause-ends
 returns-in-Ok-clause-ends g c =
     let left = g.I.Channel.left in
     let took = subst (TookAll (left c.args.input.now) (left c.read_input.new.input)) (sym c.as_slice.ensures.value) c.in-Ok.ensures.bytes in
-    found_ends {S = Unit {0}} Shows Keeps tt tt _ _ c.as_slice.result.now took c.in-Ok.ensures.faults c.show_bytes.result (found_shown _ c.show_bytes.result c.show_bytes.ensures) c.end_found.result c.end_found.ensures.found
+    found_ends showing
+    (lent tt (stream g.I.Channel c.args.input.now) (stream g.O.Channel c.args.output.now))
+    (lent tt (stream g.I.Channel c.read_input.new.input) (stream g.O.Channel c.end_found.new.output))
+    c.as_slice.result.now took c.in-Ok.ensures.faults c.show_bytes.result (found_shown _ c.show_bytes.result c.show_bytes.ensures) c.end_found.result c.end_found.ensures.found
 
 pub returns-in-Err-clause-ends : goal.returns-in-Err-clause-ends
 returns-in-Err-clause-ends g c =
-    unread_ends {S = Unit {0}} Shows Keeps tt tt _ _ refl c.in-Err.fault c.in-Err.ensures.bytes c.in-Err.ensures.faults c.end_unread.result c.end_unread.ensures.fails
+    unread_ends showing
+    (lent tt (stream g.I.Channel c.args.input.now) (stream g.O.Channel c.args.output.now))
+    (lent tt (stream g.I.Channel c.read_input.new.input) (stream g.O.Channel c.end_unread.new.output))
+    refl c.in-Err.fault c.in-Err.ensures.bytes c.in-Err.ensures.faults c.end_unread.result c.end_unread.ensures.fails

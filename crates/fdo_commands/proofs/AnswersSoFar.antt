@@ -12,15 +12,16 @@ use Rattle.fdo_msgs.proofs.RunMore.{runs_more}
 use Rattle.fdo_msgs.specs.declared.answer.Answer.{Answer}
 use Rattle.fdo_msgs.specs.declared.cause.Object.{Object}
 use Rattle.fdo_msgs.specs.declared.packet.Packet.{Packet}
-use Rattle.fdo_commands.specs.Answering.{AnswersAll, AnswersOne, CutShort, answers_text, blamed, first_blamed, rank, sooner}
+use Rattle.fdo_commands.specs.Answering.{AnswersAll, AnswersOne, CutShort, Role, Stage, answers_text, blamed, first_blamed, rank, sooner}
 use Rattle.fdo_commands.specs.Line.{answer_line}
 use Rattle.fdo_commands.specs.declared.answers.Stop.{Stop}
 use Rattle.fdo_commands.specs.declared.answers.Stop.TheVariants as stop
 
 -- the first i messages are answered
-abbrev pub AnswersFirst : {S : Type 0} → (S → Packet → Answer → S → Type 0) → S → List Packet → ℕ → S → Option (List ℕ) → Option (List ℕ) → Option Object → Type 0
-AnswersFirst Steps s packets i t written written' fault =
-    (all : List Answer) × Runs Steps s (take i packets) all t × (written' ≡ grown written (answers_text all)) × (fault ≡ first_blamed all)
+abbrev pub AnswersFirst : {S : Type 0} → Role S → List Packet → ℕ → Stage S → Stage S → Option Object → Type 0
+AnswersFirst role packets i before after fault =
+    (all : List Answer) × Runs role.Steps before.state (take i packets) all after.state
+    × (after.output.written ≡ grown before.output.written (answers_text all)) × (fault ≡ first_blamed all)
 
 none_last : (a : Option Object) → sooner a None ≡ a
 none_last None = refl
@@ -55,45 +56,45 @@ apart : (packets : List Packet) (packet : Packet) (i : ℕ) → i < length packe
 apart packets packet i within is =
     sym (take-append-drop i packets) ∙ ap (λ rest. take i packets ++ rest) (drop-cons packets i packet within ∙ ap (λ p. p ∷ drop (suc i) packets) (sym is))
 
-module _ {S : Type 0} (Steps : S → Packet → Answer → S → Type 0) (GivesUp : S → Packet → S → Type 0) (s : S) (packets : List Packet) (written : Option (List ℕ)) where
-  pub none_answered : AnswersFirst Steps s packets 0 s written written None
-  none_answered = ([], refl, sym (grown_nothing written), refl)
+module _ {S : Type 0} (role : Role S) (packets : List Packet) (start : Stage S) where
+  pub none_answered : AnswersFirst role packets 0 start start None
+  none_answered = ([], refl, sym (grown_nothing start.output.written), refl)
 
-  pub all_answered : (i : ℕ) (t : S) (written' : Option (List ℕ)) (fault : Option Object) → length packets ≤ i → AnswersFirst Steps s packets i t written written' fault → AnswersAll Steps GivesUp s packets t written written' (Ok fault)
-  all_answered i t written' fault past first = (first.0, subst (λ ps. Runs Steps s ps first.0 t) (take_all i packets past) first.1, first.2, first.3)
+  pub all_answered : (i : ℕ) (end : Stage S) (fault : Option Object) → length packets ≤ i → AnswersFirst role packets i start end fault → AnswersAll role packets start end (Ok fault)
+  all_answered i end fault past first = (first.0, subst (λ ps. Runs role.Steps start.state ps first.0 end.state) (take_all i packets past) first.1, first.2, first.3)
 
-  module _ (packet : Packet) (i : ℕ) (within : i < length packets) (is : packet ≡ get_or packets i packet) (mid t : S) (between after : Option (List ℕ)) (fault : Option Object) (first : AnswersFirst Steps s packets i mid written between fault) where
-    longer : (answer : Answer) → Steps mid packet answer t → Runs Steps s (take (i + 1) packets) (first.0 ++ answer ∷ []) t
-    longer answer step = subst (λ ps. Runs Steps s ps (first.0 ++ answer ∷ []) t) (sym (take_and packets packet i within is)) (runs_more Steps s mid t (take i packets) first.0 packet answer first.1 step)
+  module _ (packet : Packet) (i : ℕ) (within : i < length packets) (is : packet ≡ get_or packets i packet) (mid end : Stage S) (fault : Option Object) (first : AnswersFirst role packets i start mid fault) where
+    longer : (answer : Answer) → role.Steps mid.state packet answer end.state → Runs role.Steps start.state (take (i + 1) packets) (first.0 ++ answer ∷ []) end.state
+    longer answer step = subst (λ ps. Runs role.Steps start.state ps (first.0 ++ answer ∷ []) end.state) (sym (take_and packets packet i within is)) (runs_more role.Steps start.state mid.state end.state (take i packets) first.0 packet answer first.1 step)
 
-    pub one_answered : (one : Option Object) → AnswersOne Steps GivesUp mid packet t between after (Ok one) → AnswersFirst Steps s packets (i + 1) t written after (sooner fault one)
+    pub one_answered : (one : Option Object) → AnswersOne role packet mid end (Ok one) → AnswersFirst role packets (i + 1) start end (sooner fault one)
     one_answered one answer = (
       first.0 ++ answer.0 ∷ [],
       longer answer.0 answer.1,
-      answer.2 ∙ ap (λ told. grown told (answer_line answer.0)) first.2 ∙ grown_twice written (answers_text first.0) (answer_line answer.0) ∙ ap (grown written) (sym (text_and first.0 answer.0)),
+      answer.2 ∙ ap (λ told. grown told (answer_line answer.0)) first.2 ∙ grown_twice start.output.written (answers_text first.0) (answer_line answer.0) ∙ ap (grown start.output.written) (sym (text_and first.0 answer.0)),
       ap (λ b. sooner b one) first.3 ∙ ap (sooner (first_blamed first.0)) answer.3 ∙ sym (blamed_and first.0 answer.0),
     )
 
-    cut : (line : List ℕ) → CutShort between after line → CutShort written after (answers_text first.0 ++ line)
+    cut : (line : List ℕ) → CutShort mid.output end.output line → CutShort start.output end.output (answers_text first.0 ++ line)
     cut line short = (
       length (answers_text first.0) + short.0,
       omega (arith, short.1, length-append (answers_text first.0) line),
-      short.2 ∙ ap (λ told. grown told (take short.0 line)) first.2 ∙ grown_twice written (answers_text first.0) (take short.0 line) ∙ ap (grown written) (sym (take-append-add (answers_text first.0) line short.0)),
+      short.2 ∙ ap (λ told. grown told (take short.0 line)) first.2 ∙ grown_twice start.output.written (answers_text first.0) (take short.0 line) ∙ ap (grown start.output.written) (sym (take-append-add (answers_text first.0) line short.0)),
     )
 
-    write_failed : AnswersOne Steps GivesUp mid packet t between after (Err stop.Write) → AnswersAll Steps GivesUp s packets t written after (Err stop.Write)
+    write_failed : AnswersOne role packet mid end (Err stop.Write) → AnswersAll role packets start end (Err stop.Write)
     write_failed answer = (
       take (i + 1) packets,
       drop (i + 1) packets,
       first.0 ++ answer.0 ∷ [],
       sym (take-append-drop (i + 1) packets),
       longer answer.0 answer.1,
-      subst (CutShort written after) (sym (text_and first.0 answer.0)) (cut (answer_line answer.0) answer.2),
+      subst (CutShort start.output end.output) (sym (text_and first.0 answer.0)) (cut (answer_line answer.0) answer.2),
     )
 
-    memory_ran_out : AnswersOne Steps GivesUp mid packet t between after (Err stop.NoMemory) → AnswersAll Steps GivesUp s packets t written after (Err stop.NoMemory)
-    memory_ran_out answer = (take i packets, drop (suc i) packets, packet, first.0, mid, apart packets packet i within is, first.1, answer.0, answer.1 ∙ first.2)
+    memory_ran_out : AnswersOne role packet mid end (Err stop.NoMemory) → AnswersAll role packets start end (Err stop.NoMemory)
+    memory_ran_out answer = (take i packets, drop (suc i) packets, packet, first.0, mid.state, apart packets packet i within is, first.1, answer.0, answer.1 ∙ first.2)
 
-    pub stopped : (why : Stop) → AnswersOne Steps GivesUp mid packet t between after (Err why) → AnswersAll Steps GivesUp s packets t written after (Err why)
+    pub stopped : (why : Stop) → AnswersOne role packet mid end (Err why) → AnswersAll role packets start end (Err why)
     stopped stop.Write answer = write_failed answer
     stopped stop.NoMemory answer = memory_ran_out answer

@@ -1,5 +1,5 @@
 #!/usr/bin/env python3
-"""Writes cases.txt, the cases of the `voucher` commands, and the vouchers in examples/.
+"""Prints cases of the `voucher` commands, the lines of lines/cases.txt, and writes the vouchers in examples/.
 
 A case has a line `case NAME`; a line `word TEXT` for each word; `input HEX`, with `-` for none, or `input made NAME`,
 where lab.py makes it by that name; `line TEXT` for each line that is to be written, or `bytes HEX` or `bytes made NAME`
@@ -428,16 +428,14 @@ GROUPS = [
 
 def main():
     names = set()
-    with open(HERE / "cases.txt", "w", encoding="utf-8", newline="\n") as out:
-        print("# The voucher commands: words, input, what is to be written, status. Made by make.py, run by compare",
-            file=out)
-        for comment, group in GROUPS:
-            print(f"# {comment}", file=out)
-            for case in group():
-                assert case.name not in names and "\n" not in case.name, case.name
-                names.add(case.name)
-                print("\n".join(case.lines()), file=out)
-    examples = HERE.parents[2] / "examples"
+    print("# The voucher commands: words, input, what is to be written, status. Made by make_cases.py")
+    for comment, group in GROUPS:
+        print(f"# {comment}")
+        for case in group():
+            assert case.name not in names and "\n" not in case.name, case.name
+            names.add(case.name)
+            print("\n".join(case.lines()))
+    examples = HERE.parent / "examples"
     examples.mkdir(exist_ok=True)
     for name, data in (("lab0", lab.lab(lab.owners(0))), ("lab3", THREE), ("p256", lab.p256())):
         (examples / f"{name}.voucher").write_bytes(data)

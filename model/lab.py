@@ -9,10 +9,7 @@ bytes, else of SHA-256 (kind -16, HMAC kind 5).
 
 import hashlib
 import hmac as hmac_code
-import sys
-from pathlib import Path
 
-sys.path.insert(0, str(Path(__file__).resolve().parents[2] / "reader_lines" / "lines"))
 from vouchers import make, of, row, shortest
 
 GUID = bytes(range(16))

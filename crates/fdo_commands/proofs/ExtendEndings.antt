@@ -19,17 +19,18 @@ use Rattle.voucher_chain.specs.declared.voucher.Voucher.{Voucher}
 use Rattle.voucher_tool.specs.Longer.{AsksFile, RefusesFile}
 use Rattle.voucher_tool.specs.Refusal.{refused}
 use Rattle.suite_port.specs.Keys.{Keys}
-use Rattle.fdo_commands.specs.Ending.{Streams}
+use Rattle.fdo_ports.specs.Stream.{Stream}
+use Rattle.fdo_commands.specs.Ending.{Lent, lent}
 use Rattle.fdo_commands.specs.Extending.{EntryEnds, ExtendEnds, Loaded, Unloaded}
 use Rattle.fdo_commands.specs.Outside.{Signing}
 use Rattle.fdo_commands.specs.Texts.{TextEnds}
-use Rattle.fdo_commands.specs.Vouchers.{Extends, ExtendsFront, MaySignFile, refused_as, told_as}
+use Rattle.fdo_commands.specs.Vouchers.{Extends, ExtendsFront, MaySignFile, extending, refused_as, told_as}
 use Rattle.fdo_commands.specs.declared.status.Status.{Status}
 use Rattle.fdo_commands.specs.declared.status.Status.TheVariants as status
 use Rattle.fdo_commands.specs.declared.texts.Told.{Told}
 use Rattle.fdo_commands.specs.declared.texts.Told.TheVariants as told
-use Rattle.fdo_commands.proofs.Records.{keys_of, streams_of}
-use Rattle.fdo_commands.proofs.TextsMore.{text_done, text_read, text_write}
+use Rattle.fdo_commands.proofs.Records.{keys_of}
+use Rattle.fdo_commands.proofs.TextEndings.{text_done, text_read, text_write}
 
 -- the suite's count of faults stays, or rises where the signer fails
 may_rise : (before now : ℕ) (f : ChainFault) → Counts {A = List ℕ} before now (Err f) → (now ≡ before) ⊎ Rises before now
@@ -79,9 +80,9 @@ quiet before now what (Err fault.NoMatch) counts is other = counts
 quiet before now what (Err fault.Failed) counts is other = absurd (other (refused (codes "failed")) is)
 quiet before now what (Err fault.NoMemory) counts is other = counts
 
-module _ (signs : Signing) (next : PublicKey) (private : List ℕ) (s t : Keys) (before after : Streams) where
-  -- behind a key that is loaded
-  loaded_ends : (ending : Status) → EntryEnds signs next private s t before after ending → ExtendEnds signs next private s t before after ending
+module _ (signs : Signing) (next : PublicKey) (private : List ℕ) (before after : Lent Keys) where
+  -- after a key that is loaded
+  loaded_ends : (ending : Status) → EntryEnds signs next private before after ending → ExtendEnds signs next private before after ending
   loaded_ends status.Done ends = ends
   loaded_ends status.Words ends = absurd ends.2.5
   loaded_ends status.Input ends = ends
@@ -92,63 +93,64 @@ module _ (signs : Signing) (next : PublicKey) (private : List ℕ) (s t : Keys) 
   loaded_ends status.Refused ends = ends
   loaded_ends status.Outside ends = absurd ends.2.5
 
-  module _ (ending : Status) (ends : ExtendEnds signs next private s t before after ending) where
-    at : (e : Status) → ending ≡ e → ExtendEnds signs next private s t before after e
-    at e is = subst (ExtendEnds signs next private s t before after) is ends
+  -- the private key is loaded, and the voucher is read then
+  pub after_load : (loaded : Keys) → signs.loads private ≡ true → (key : List ℕ) → Adds before.stage.state.held loaded.held key → loaded.faults ≡ before.stage.state.faults → loaded.asked ≡ grown before.stage.state.asked (AskedToLoad private ∷ []) → (ending : Status) → TextEnds (extending signs next) (lent loaded before.input before.stage.output) after ending → ExtendEnds signs next private before after ending
+  after_load loaded known key adds still asked ending ends =
+      loaded_ends ending (loaded, record { known = known; key = key; adds = adds; faults = still; asked = asked }, ends)
+
+  module _ (ending : Status) (ends : ExtendEnds signs next private before after ending) where
+    at : (e : Status) → ending ≡ e → ExtendEnds signs next private before after e
+    at e is = subst (ExtendEnds signs next private before after) is ends
 
     pub extend_words : ending ≡ status.Words → signs.loads private ≡ false
     extend_words is = (at status.Words is).0
 
-    pub extend_done : ending ≡ status.Done → (t.faults ≡ s.faults) × (after.read_faults ≡ before.read_faults) × (after.write_faults ≡ before.write_faults)
+    pub extend_done : ending ≡ status.Done → (after.stage.state.faults ≡ before.stage.state.faults) × (after.input.read_faults ≡ before.input.read_faults) × (after.stage.output.write_faults ≡ before.stage.output.write_faults)
     extend_done is =
         let done = at status.Done is in
-        let text = text_done (Extends signs next) ExtendsFront done.0 t before after status.Done done.2 refl in
-        (quiet done.0.faults t.faults done.2.3 done.2.4.answer done.2.4.counts done.2.4.told (λ line other. cc (done.2.5.1, other)) ∙ done.1.faults, text.0, text.1)
+        let text = text_done (extending signs next) (lent done.0 before.input before.stage.output) after status.Done done.2 refl in
+        (quiet done.0.faults after.stage.state.faults done.2.3 done.2.4.answer done.2.4.counts done.2.4.told (λ line other. cc (done.2.5.1, other)) ∙ done.1.faults, text.0, text.1)
 
-    pub extend_read : ending ≡ status.Read → Rises before.read_faults after.read_faults
-    extend_read is = let ends = at status.Read is in text_read (Extends signs next) ExtendsFront ends.0 t before after status.Read ends.2 refl
+    pub extend_read : ending ≡ status.Read → Rises before.input.read_faults after.input.read_faults
+    extend_read is = let ends = at status.Read is in text_read (extending signs next) (lent ends.0 before.input before.stage.output) after status.Read ends.2 refl
 
-    pub extend_write : ending ≡ status.Write → Rises before.write_faults after.write_faults
-    extend_write is = let ends = at status.Write is in text_write (Extends signs next) ExtendsFront ends.0 t before after status.Write ends.2 refl
+    pub extend_write : ending ≡ status.Write → Rises before.stage.output.write_faults after.stage.output.write_faults
+    extend_write is = let ends = at status.Write is in text_write (extending signs next) (lent ends.0 before.input before.stage.output) after status.Write ends.2 refl
 
-    pub extend_outside : ending ≡ status.Outside → Rises s.faults t.faults
+    pub extend_outside : ending ≡ status.Outside → Rises before.stage.state.faults after.stage.state.faults
     extend_outside is = (at status.Outside is).1
 
 -- the keys that were held are held still
-module _ (signs : Signing) (next : PublicKey) (private : List ℕ) (s t : Keys) (before after : Streams) (key : List ℕ) (is : s.held key ≡ true) where
-  same_held : t.held ≡ s.held → t.held key ≡ true
+module _ (signs : Signing) (next : PublicKey) (private : List ℕ) (before after : Lent Keys) (key : List ℕ) (is : before.stage.state.held key ≡ true) where
+  same_held : after.stage.state.held ≡ before.stage.state.held → after.stage.state.held key ≡ true
   same_held same = ap (λ (held : List ℕ → Bool). held key) same ∙ is
 
-  kept : (loaded : Keys) → Loaded signs private s loaded → t.held ≡ loaded.held → t.held key ≡ true
+  kept : (loaded : Keys) → Loaded signs private before.stage.state loaded → after.stage.state.held ≡ loaded.held → after.stage.state.held key ≡ true
   kept loaded from same = ap (λ (held : List ℕ → Bool). held key) same ∙ from.adds.kept key is
 
-  stayed : (loaded : Keys) → Loaded signs private s loaded → t ≡ loaded → t.held key ≡ true
+  stayed : (loaded : Keys) → Loaded signs private before.stage.state loaded → after.stage.state ≡ loaded → after.stage.state.held key ≡ true
   stayed loaded from same = kept loaded from (ap (λ (k : Keys). k.held) same)
 
-  pub extend_held : (ending : Status) → ExtendEnds signs next private s t before after ending → t.held key ≡ true
+  pub extend_held : (ending : Status) → ExtendEnds signs next private before after ending → after.stage.state.held key ≡ true
   extend_held status.Done ends = kept ends.0 ends.1 ends.2.4.held
   extend_held status.Words ends = same_held (ap (λ (k : Keys). k.held) ends.1)
   extend_held status.Input ends = kept ends.0 ends.1 ends.2.4.held
   extend_held status.Read ends = stayed ends.0 ends.1 ends.2.4
   extend_held status.Write ends = kept ends.0 ends.1 ends.2.4.held
-  extend_held status.NoMemory ends = elim ends [ inl same ↦ same_held (ap (λ (k : Keys). k.held) same.0) | inr more ↦ elim more.2.5 [ inl same ↦ stayed more.0 more.1 same | inr front ↦ kept more.0 more.1 front.1.held ] ]
+  extend_held status.NoMemory ends = elim ends [ inl same ↦ same_held (ap (λ (k : Keys). k.held) same.0.0) | inr more ↦ elim more.2.5 [ inl same ↦ stayed more.0 more.1 same | inr front ↦ kept more.0 more.1 front.1.held ] ]
   extend_held status.Limit ends = stayed ends.0 ends.1 ends.2.4
   extend_held status.Refused ends = kept ends.0 ends.1 ends.2.4.held
   extend_held status.Outside ends = same_held ends.0
 
 -- the private key is not loaded, and nothing is read
-pub unloaded_ends : (T : Type 0) (signs : Signing) (next : PublicKey) (private : List ℕ) (held held' : List ℕ → Bool) (count count' : ℕ) (asked asked' : Option (List Ask)) (left left' : Option (List ℕ)) (reads reads' : ℕ) (written written' : Option (List ℕ)) (writes writes' : ℕ) → (f : SuiteFault) → Decides {T = T} (signs.loads private) (Err f) → held' ≡ held → SuiteCounts {T = T} count count' (Err f) → asked' ≡ asked → left' ≡ left → reads' ≡ reads → (ending : Status) → Unloaded f written writes written' writes' ending → ExtendEnds signs next private (keys_of held count asked) (keys_of held' count' asked') (streams_of left reads written writes) (streams_of left' reads' written' writes') ending
-unloaded_ends T signs next private held held' count count' asked asked' left left' reads reads' written written' writes writes' suite.NoAlgorithm known same counts quietly one two ending ends =
-    subst (ExtendEnds signs next private (keys_of held count asked) (keys_of held' count' asked') (streams_of left reads written writes) (streams_of left' reads' written' writes')) (sym ends.0)
-    (known, rw (same, counts, quietly) refl, record { line = ends.1; left = one; read_faults = two })
-unloaded_ends T signs next private held held' count count' asked asked' left left' reads reads' written written' writes writes' suite.Failed known same counts quietly one two ending ends =
-    subst (ExtendEnds signs next private (keys_of held count asked) (keys_of held' count' asked') (streams_of left reads written writes) (streams_of left' reads' written' writes')) (sym ends.0)
-    (same, counts, quietly, record { line = ends.1; left = one; read_faults = two })
-unloaded_ends T signs next private held held' count count' asked asked' left left' reads reads' written written' writes writes' suite.NoMemory known same counts quietly one two ending ends =
-    subst (ExtendEnds signs next private (keys_of held count asked) (keys_of held' count' asked') (streams_of left reads written writes) (streams_of left' reads' written' writes')) (sym ends.0)
-    (inl (rw (same, counts, quietly) refl, rw (one, two, ends.1, ends.2) refl))
+module _ (T : Type 0) (signs : Signing) (next : PublicKey) (private : List ℕ) (held held' : List ℕ → Bool) (count count' : ℕ) (asked asked' : Option (List Ask)) (input input' output output' : Stream) where
+  abbrev UnloadedEnds : Status → Type 0
+  UnloadedEnds = ExtendEnds signs next private (lent (keys_of held count asked) input output) (lent (keys_of held' count' asked') input' output')
 
--- the private key is loaded, and the voucher is read then
-pub after_load : (signs : Signing) (next : PublicKey) (private : List ℕ) (s loaded t : Keys) (before after : Streams) → signs.loads private ≡ true → (key : List ℕ) → Adds s.held loaded.held key → loaded.faults ≡ s.faults → loaded.asked ≡ grown s.asked (AskedToLoad private ∷ []) → (ending : Status) → TextEnds (Extends signs next) ExtendsFront loaded t before after ending → ExtendEnds signs next private s t before after ending
-after_load signs next private s loaded t before after known key adds still asked ending ends =
-    loaded_ends signs next private s t before after ending (loaded, record { known = known; key = key; adds = adds; faults = still; asked = asked }, ends)
+  pub unloaded_ends : (f : SuiteFault) → Decides {T = T} (signs.loads private) (Err f) → held' ≡ held → SuiteCounts {T = T} count count' (Err f) → asked' ≡ asked → input'.left ≡ input.left → input'.read_faults ≡ input.read_faults → (ending : Status) → Unloaded f output output' ending → UnloadedEnds ending
+  unloaded_ends suite.NoAlgorithm known same counts quietly one two ending ends =
+      subst UnloadedEnds (sym ends.0) (known, rw (same, counts, quietly) refl, record { line = ends.1; left = one; read_faults = two })
+  unloaded_ends suite.Failed known same counts quietly one two ending ends =
+      subst UnloadedEnds (sym ends.0) (same, counts, quietly, record { line = ends.1; left = one; read_faults = two })
+  unloaded_ends suite.NoMemory known same counts quietly one two ending ends =
+      subst UnloadedEnds (sym ends.0) (inl ((rw (same, counts, quietly) refl, ends.1, ends.2), one, two))
