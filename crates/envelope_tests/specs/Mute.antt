@@ -2,7 +2,7 @@
 use Rattle.std.specs.Prelude.{ℕ, ℤ, pos, List, Bool, Option, None, Some, if◌then◌else◌}
 use Rattle.std.specs.Ordering.{int_eq}
 use Rattle.std.specs.Str.{bytes_eq}
-use Rattle.voucher_tests.specs.declared.mute_suite.MuteSuite.{MuteSuite}
+use Rattle.envelope_tests.specs.declared.mute_suite.MuteSuite.{MuteSuite}
 
 -- it holds the key that it was made with
 abbrev pub mute_held : MuteSuite → List ℕ → Bool

@@ -1,6 +1,6 @@
 ghost use Rattle.std.specs.Prelude.{◌≡◌, [], None, Some, true, false, refl};
 ghost use Rattle.std.proofs.Common.{rules};
-ghost use Rattle.voucher_tests.specs.Mute.{mute_held, mute_bits};
+ghost use Rattle.envelope_tests.specs.Mute.{mute_held, mute_bits};
 
 use std::alloc::Global;
 use suite_port::{Aead, CertReader, Holder, Kex, Signer, Suite, SuiteFault, Verifier};

@@ -1,5 +1,5 @@
 //! Vouchers with one break, and what is said of others where a byte is changed or the rest is cut off, made by the
-//! readers and writers in Python of `crates/fdo_program/vouchers`.
+//! readers and writers in Python of `model/`.
 use voucher_chain::ChainFault;
 
 /// What is said of the voucher of five entries where a byte, at this place, is changed by these bits.

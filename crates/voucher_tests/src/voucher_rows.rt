@@ -1,5 +1,5 @@
 //! Vouchers of the laboratory suite and what is said of them, made by the readers and writers in Python of
-//! `crates/fdo_program/vouchers`.
+//! `model/`.
 
 /// A voucher without entries, whose header's key is that of the private key 01.
 pub(crate) const NO_ENTRIES: &str =
