@@ -40,6 +40,8 @@ pub fn fdo<I: Source, O: Sink, S: Suite, N: Random>(
     // with 5 a proper front of it, with 9 the line of the refusal, with 3 the place of the fault; with 7 nothing. To
     // extend one, PRIVATE is loaded first: with 2 it is no key of the suite, with 11 the signer failed, and nothing is read.
     // With 4 the input failed and with 8 it is too long: there is a last line, and nothing is answered or told.
+    // What is asked of the suite, where it tells that: to check, each entry's signature once, in order, up to the first
+    // break; to extend, to load PRIVATE once, and then one signature over the new entry, or none where it is refused.
     ensures ran { RanWords (signing S.Verifier.verifies S.Signer.algorithm S.Signer.loads) words.now
         (outside (stream I.Channel input.old) (stream O.Channel output.old)
         (keys S.Holder suite.old) (drawn N.Random random.old))
