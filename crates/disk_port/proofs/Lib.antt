@@ -1,0 +1,4 @@
+pub mod Gates
+pub mod Histories
+pub mod Stepping
+pub mod Written

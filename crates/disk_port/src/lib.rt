@@ -1,0 +1,17 @@
+//! A disk as the program sees it, what a crash at any moment leaves of it, and how to change bytes on it so that a crash
+//! leaves them as before or after the change.
+#![tactic(auto)]
+
+pub mod bytes;
+pub mod disk;
+pub mod gated;
+pub mod history;
+pub mod kept;
+mod putting;
+pub mod stop;
+pub mod stops;
+
+pub use bytes::Bytes;
+pub use disk::Disk;
+pub use gated::put_gated;
+pub use stops::{Pick, Stops};
