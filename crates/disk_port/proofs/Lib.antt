@@ -1,4 +1,5 @@
 pub mod Gates
 pub mod Histories
+pub mod Left
 pub mod Stepping
 pub mod Written

@@ -5,3 +5,5 @@ pub mod Moments
 pub mod Gated
 pub mod History
 pub mod Picked
+pub mod Turn
+pub mod MemoryDisk
