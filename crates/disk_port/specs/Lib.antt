@@ -7,3 +7,4 @@ pub mod History
 pub mod Picked
 pub mod Turn
 pub mod MemoryDisk
+pub mod Slots

@@ -8,7 +8,10 @@ pub mod gated;
 pub mod history;
 pub mod kept;
 pub mod memory_disk;
+pub mod next_change;
 mod putting;
+pub mod side;
+pub mod slots;
 pub mod stop;
 pub mod stops;
 
@@ -16,4 +19,7 @@ pub use bytes::Bytes;
 pub use disk::Disk;
 pub use gated::put_gated;
 pub use memory_disk::MemoryDisk;
+pub use next_change::NextChange;
+pub use side::Side;
+pub use slots::Slots;
 pub use stops::{Pick, Stops};
