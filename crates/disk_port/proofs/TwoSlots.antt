@@ -4,6 +4,15 @@ use Rattle.std.proofs.lemmas.List.{take_all, take-take, drop-take, drop-drop, dr
 use Rattle.std.proofs.lemmas.Bool.{cases_lt, cases_Bool}
 use Rattle.disk_port.specs.Story.{put}
 use Rattle.disk_port.specs.Crash.{Torn}
+use Rattle.disk_port.specs.Gated.{gate_closed, gate_filled, MayLeave}
+use Rattle.disk_port.specs.Slots.{AreApart, body_length, slot, payload, base, slot_at, stands, other, is_shut, next_side, next_generation, next_change, generation_after, changed, IsBeforeOrAfter, IsChanged}
+use Rattle.disk_port.specs.declared.slots.Slots.{Slots}
+use Rattle.disk_port.specs.declared.side.Side.{Side}
+use Rattle.disk_port.specs.declared.side.Side.TheVariants.{First, Second}
+use Rattle.disk_port.specs.declared.next_change.NextChange.{NextChange}
+use Rattle.disk_port.proofs.Written.{put_torn, torn_same, drop_put, length_put}
+use Rattle.disk_port.proofs.OneSlot.{IsOpen, open_from, whole_fits, stays_open, gate_torn, behind_torn, opening_torn, new_slot, open_gate, payload_length}
+use Rattle.disk_port.proofs.Picks.{first_open, same_counts, new_counts}
 
 -- seen from a place before it
 pub torn_drop : (base k n : ℕ) (d c : List ℕ) → Torn (base + k) n d c → Torn k n (drop base d) (drop base c)
@@ -24,3 +33,48 @@ torn_drop base k n d c torn = record {
         let is : min (base + k) (length d) ≡ base + m = omega (arith, length-drop base d) in
         let same : take (base + m) c ≡ take (base + m) d = subst (λ n. take n c ≡ take n d) is torn.before in
         sym (drop-take base m c) ∙ ap (drop base) same ∙ drop-take base m d
+
+pub torn_gate : (base n : ℕ) (d c : List ℕ) → Torn base n d c → Torn 0 n (drop base d) (drop base c)
+torn_gate base n d c torn =
+    let is : base ≡ base + 0 = omega arith in
+    torn_drop base 0 n d c (subst (λ m. Torn m n d c) is torn)
+
+-- what stands behind it stays
+pub torn_behind : (m at n : ℕ) (d c : List ℕ) → at + n ≤ m → Torn at n d c → drop m c ≡ drop m d
+torn_behind m at n d c past torn =
+    let is : at + n + (m - (at + n)) ≡ m = omega arith in
+    sym (ap (λ k. drop k c) is) ∙ sym (drop-drop (m - (at + n)) (at + n) c) ∙ ap (drop (m - (at + n))) torn.after ∙ drop-drop (m - (at + n)) (at + n) d ∙ ap (λ k. drop k d) is
+
+-- what stands before it stays
+pub torn_before : (k at n : ℕ) (d c : List ℕ) → k ≤ at → k ≤ length d → Torn at n d c → take k c ≡ take k d
+torn_before k at n d c within inside torn =
+    sym (take-take k (min at (length d)) c (omega arith)) ∙ ap (take k) torn.before ∙ take-take k (min at (length d)) d (omega arith)
+
+-- the gate that is closed stands shut
+pub closed_shut : (at : ℕ) (shut : Bool) (d : List ℕ) → shut ≡ is_shut (drop at d) → is_shut (drop at (gate_closed at shut d)) ≡ true
+closed_shut at true d is = sym is
+closed_shut at false d is = ap is_shut (drop_put at (0 ∷ []) d)
+
+pub closed_torn : (at : ℕ) (shut : Bool) (d : List ℕ) → Torn at 1 d (gate_closed at shut d)
+closed_torn at true d = torn_same at 1 d
+closed_torn at false d = put_torn at (0 ∷ []) d
+
+-- what is filled in stands behind the gate
+pub filled_is : (at : ℕ) (bytes d : List ℕ) → drop at (put (at + 1) bytes d) ≡ get_or (put (at + 1) bytes d) at 0 ∷ (bytes ++ drop (at + 1 + length bytes) d)
+filled_is at bytes d =
+    drop_more (put (at + 1) bytes d) at 0 (omega (arith, length_put (at + 1) bytes d)) ∙ ap (λ t. get_or (put (at + 1) bytes d) at 0 ∷ t) (drop_put (at + 1) bytes d)
+
+-- and then behind the open one
+pub opened_is : (at : ℕ) (bytes d : List ℕ) → drop at (put at (1 ∷ []) (put (at + 1) bytes d)) ≡ 1 ∷ (bytes ++ drop (at + 1 + length bytes) d)
+opened_is at bytes d = drop_put at (1 ∷ []) (put (at + 1) bytes d) ∙ ap (λ t. 1 ∷ t) (drop_put (at + 1) bytes d)
+
+module _ (slots : Slots) (apart : AreApart slots) where
+  -- writes within one slot keep the other
+  pub other_stays : (side : Side) (at n : ℕ) (d c : List ℕ) → base slots side ≤ at → at + n ≤ base slots side + (13 + slots.most) → (side ≡ Second → (x : ℕ × List ℕ) × (slot_at slots First d ≡ Some x)) → Torn at n d c → slot_at slots (other side) c ≡ slot_at slots (other side) d
+  other_stays First at n d c from to first torn = ap (slot slots.most) (torn_behind slots.second at n d c (omega (arith, apart, to)) torn)
+  other_stays Second at n d c from to first torn =
+      let x = first refl in
+      let is_open : IsOpen slots.most d = open_from slots.most d x.0 x.1 in
+      let fits = whole_fits slots.most is_open.behind is_open.whole in
+      let k : ℕ = 12 + body_length is_open.behind in
+      stays_open slots.most d c k is_open refl (torn_before (suc k) at n d c (omega (arith, fits.0, apart, from)) (omega (arith, fits.1, ap length is_open.is)) torn)
