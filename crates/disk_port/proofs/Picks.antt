@@ -70,6 +70,7 @@ new_counts First f s f' s' g body side next small others new = ap (λ x. newest 
     older s is =
         let no : is_newer s.0 g ≡ false = subst (λ n. is_newer s.0 n ≡ false) (sym is) (after_not_older s.0 (subst (λ n. n < 2 ^ 64) is small)) in
         rw no refl
+
     first : (f s : Slot) → First ≡ next_side (newest f s) → g ≡ next_generation (newest f s) → newest (Some (g, body)) s ≡ Some (record { side = First; generation = g; body = body })
     first f None side next = refl
     first None (Some s) side next = older s next
@@ -83,6 +84,7 @@ new_counts Second f s f' s' g body side next small others new = ap (λ x. newest
     newer f is =
         let later : is_newer g f.0 ≡ true = subst (λ n. is_newer n f.0 ≡ true) (sym is) (after_newer f.0 (subst (λ n. n < 2 ^ 64) is small)) in
         rw later refl
+
     second : (f s : Slot) → Second ≡ next_side (newest f s) → g ≡ next_generation (newest f s) → newest f (Some (g, body)) ≡ Some (record { side = Second; generation = g; body = body })
     second None None side next = first≢second (sym side)
     second None (Some s) side next = first≢second (sym side)

@@ -27,6 +27,7 @@ torn_drop base k n d c torn = record {
     outside past =
         let none : min k (length (drop base d)) ≡ 0 = omega (arith, length-drop base d) in
         rw none refl
+
     within : base < length d → take (min k (length (drop base d))) (drop base c) ≡ take (min k (length (drop base d))) (drop base d)
     within inside =
         let m : ℕ = min k (length (drop base d)) in
@@ -78,3 +79,75 @@ module _ (slots : Slots) (apart : AreApart slots) where
       let fits = whole_fits slots.most is_open.behind is_open.whole in
       let k : ℕ = 12 + body_length is_open.behind in
       stays_open slots.most d c k is_open refl (torn_before (suc k) at n d c (omega (arith, fits.0, apart, from)) (omega (arith, fits.1, ap length is_open.is)) torn)
+
+  -- a change of one slot, call by call
+  module _ (d : List ℕ) (change : NextChange) (body : List ℕ) (is : change ≡ next_change slots d) (small : change.generation < 2 ^ 64) (short : length body < 2 ^ 32) (within : length body ≤ slots.most) where
+    side_is : change.side ≡ next_side (stands slots d)
+    side_is = ap (λ (n : NextChange). n.side) is
+
+    shut_is : change.shut ≡ is_shut (drop (base slots change.side) d)
+    shut_is = ap (λ (n : NextChange). n.shut) is ∙ ap (λ side. is_shut (drop (base slots side) d)) (sym side_is)
+
+    first : change.side ≡ Second → (x : ℕ × List ℕ) × (slot_at slots First d ≡ Some x)
+    first second = first_open (slot_at slots First d) (slot_at slots Second d) (sym second ∙ side_is)
+
+    abbrev Keeps : List ℕ → Type 0
+    Keeps c = slot_at slots (other change.side) c ≡ slot_at slots (other change.side) d
+
+    keeps_none : Keeps d
+    keeps_none = refl
+
+    first_of : (m : List ℕ) → Keeps m → change.side ≡ Second → (x : ℕ × List ℕ) × (slot_at slots First m ≡ Some x)
+    first_of m keeps second =
+        let x = first second in
+        (x.0, subst (λ side. slot_at slots (other side) m ≡ slot_at slots (other side) d) second keeps ∙ x.1)
+
+    keeps_then : (at n : ℕ) (m c : List ℕ) → base slots change.side ≤ at → at + n ≤ base slots change.side + (13 + slots.most) → Keeps m → Torn at n m c → Keeps c
+    keeps_then at n m c from to keeps torn = other_stays change.side at n m c from to (first_of m keeps) torn ∙ keeps
+
+    keeps_closed : Keeps (gate_closed (base slots change.side) change.shut d)
+    keeps_closed = keeps_then (base slots change.side) 1 d (gate_closed (base slots change.side) change.shut d) (omega arith) (omega arith) refl (closed_torn (base slots change.side) change.shut d)
+
+    keeps_filling : (c : List ℕ) → Torn (base slots change.side + 1) (length (payload change.generation body)) (gate_closed (base slots change.side) change.shut d) c → Keeps c
+    keeps_filling c torn =
+        keeps_then (base slots change.side + 1) (length (payload change.generation body)) (gate_closed (base slots change.side) change.shut d) c (omega arith) (omega (arith, payload_length change.generation body, within)) keeps_closed torn
+
+    keeps_filled : Keeps (gate_filled (base slots change.side) change.shut (payload change.generation body) d)
+    keeps_filled = keeps_filling (gate_filled (base slots change.side) change.shut (payload change.generation body) d) (put_torn (base slots change.side + 1) (payload change.generation body) (gate_closed (base slots change.side) change.shut d))
+
+    keeps_opening : (c : List ℕ) → Torn (base slots change.side) 1 (gate_filled (base slots change.side) change.shut (payload change.generation body) d) c → Keeps c
+    keeps_opening c torn =
+        keeps_then (base slots change.side) 1 (gate_filled (base slots change.side) change.shut (payload change.generation body) d) c (omega arith) (omega arith) keeps_filled torn
+
+    same : (c : List ℕ) → Keeps c → (slot_at slots change.side c ≡ slot_at slots change.side d) ⊎ (slot_at slots change.side c ≡ None) → IsBeforeOrAfter slots change body d c
+    same c keeps own = inl (by_side change.side side_is keeps own)
+      where
+        by_side : (side : Side) → side ≡ next_side (stands slots d) → slot_at slots (other side) c ≡ slot_at slots (other side) d → (slot_at slots side c ≡ slot_at slots side d) ⊎ (slot_at slots side c ≡ None) → stands slots c ≡ stands slots d
+        by_side First side keeps own = same_counts First (slot_at slots First d) (slot_at slots Second d) (slot_at slots First c) (slot_at slots Second c) side keeps own
+        by_side Second side keeps own = same_counts Second (slot_at slots First d) (slot_at slots Second d) (slot_at slots First c) (slot_at slots Second c) side keeps own
+
+    new : (c : List ℕ) → Keeps c → slot_at slots change.side c ≡ Some (change.generation, body) → stands slots c ≡ Some (changed change body)
+    new c keeps own = by_side change.side side_is (ap (λ (n : NextChange). n.generation) is) keeps own
+      where
+        by_side : (side : Side) → side ≡ next_side (stands slots d) → change.generation ≡ next_generation (stands slots d) → slot_at slots (other side) c ≡ slot_at slots (other side) d → slot_at slots side c ≡ Some (change.generation, body) → stands slots c ≡ Some (record { side = side; generation = change.generation; body = body })
+        by_side First side next keeps own = new_counts First (slot_at slots First d) (slot_at slots Second d) (slot_at slots First c) (slot_at slots Second c) change.generation body side next small keeps own
+        by_side Second side next keeps own = new_counts Second (slot_at slots First d) (slot_at slots Second d) (slot_at slots First c) (slot_at slots Second c) change.generation body side next small keeps own
+
+    -- what a crash in it may leave
+    pub change_leaves : (c : List ℕ) → MayLeave (base slots change.side) change.shut (payload change.generation body) d c → IsBeforeOrAfter slots change body d c
+    change_leaves c (inl torn) =
+        same c (keeps_then (base slots change.side) 1 d c (omega arith) (omega arith) keeps_none torn.1)
+        (gate_torn slots.most (drop (base slots change.side) d) (drop (base slots change.side) c) (sym shut_is ∙ torn.0) (torn_gate (base slots change.side) 1 d c torn.1))
+    change_leaves c (inr (inl torn)) =
+        same c (keeps_filling c torn)
+        (inr (behind_torn slots.most (length (payload change.generation body)) (drop (base slots change.side) (gate_closed (base slots change.side) change.shut d)) (drop (base slots change.side) c)
+        (closed_shut (base slots change.side) change.shut d shut_is)
+        (torn_drop (base slots change.side) 1 (length (payload change.generation body)) (gate_closed (base slots change.side) change.shut d) c torn)))
+    change_leaves c (inr (inr torn)) =
+        elim (opening_torn slots.most change.generation (get_or (gate_filled (base slots change.side) change.shut (payload change.generation body) d) (base slots change.side) 0) body
+        (drop (base slots change.side + 1 + length (payload change.generation body)) (gate_closed (base slots change.side) change.shut d)) (drop (base slots change.side) c) small short within
+        (subst (λ x. Torn 0 1 x (drop (base slots change.side) c)) (filled_is (base slots change.side) (payload change.generation body) (gate_closed (base slots change.side) change.shut d))
+        (torn_gate (base slots change.side) 1 (gate_filled (base slots change.side) change.shut (payload change.generation body) d) c torn))) [
+          | inl none ↦ same c (keeps_opening c torn) (inr none)
+          | inr is_new ↦ inr (new c (keeps_opening c torn) is_new)
+        ]
