@@ -1,15 +1,18 @@
 -- A file of two slots under writes that are cut short.
-use Rattle.std.proofs.Common.{◌≡◌, ◌⊎◌, inl, inr, ℕ, suc, ◌+◌, ◌-◌, ◌^◌, ◌≤◌, ◌<◌, List, [], ◌∷◌, ◌++◌, length, take, drop, get_or, min, max, Bool, true, false, Option, None, Some, refl, ap, sym, ◌∙◌, subst, arith, length-drop}
+use Rattle.std.proofs.Common.{◌≡◌, ◌⊎◌, inl, inr, ℕ, suc, ◌+◌, ◌-◌, ◌^◌, ◌≤◌, ◌<◌, List, [], ◌∷◌, ◌++◌, length, take, drop, get_or, min, max, Bool, true, false, Option, None, Some, Result, Ok, Err, refl, ap, sym, ◌∙◌, subst, arith, length-drop}
 use Rattle.std.proofs.lemmas.List.{take_all, take-take, drop-take, drop-drop, drop_all, drop_more}
 use Rattle.std.proofs.lemmas.Bool.{cases_lt, cases_Bool}
-use Rattle.disk_port.specs.Story.{put}
+use Rattle.fdo_ports.specs.declared.failed.Failed.{Failed}
+use Rattle.disk_port.specs.Story.{Story, put, seen, with_events}
+use Rattle.disk_port.specs.Told.{Told, IfTold}
 use Rattle.disk_port.specs.Crash.{Torn}
-use Rattle.disk_port.specs.Gated.{gate_closed, gate_filled, MayLeave}
-use Rattle.disk_port.specs.Slots.{AreApart, body_length, slot, payload, base, slot_at, stands, other, is_shut, next_side, next_generation, next_change, generation_after, changed, IsBeforeOrAfter, IsChanged}
+use Rattle.disk_port.specs.Gated.{gate_closed, gate_filled, gated, Gates, MayLeave}
+use Rattle.disk_port.specs.Slots.{AreApart, body_length, slot, payload, base, slot_at, stands, other, is_shut, next_side, next_generation, next_change, generation_after, changed, change_to, change_after, body_of, IsPayload, IsBeforeOrAfter, IsChanged, Changes}
 use Rattle.disk_port.specs.declared.slots.Slots.{Slots}
 use Rattle.disk_port.specs.declared.side.Side.{Side}
 use Rattle.disk_port.specs.declared.side.Side.TheVariants.{First, Second}
 use Rattle.disk_port.specs.declared.next_change.NextChange.{NextChange}
+use Rattle.disk_port.proofs.Stepping.{steps_map}
 use Rattle.disk_port.proofs.Written.{put_torn, torn_same, drop_put, length_put}
 use Rattle.disk_port.proofs.OneSlot.{IsOpen, open_from, whole_fits, stays_open, gate_torn, behind_torn, opening_torn, new_slot, open_gate, payload_length}
 use Rattle.disk_port.proofs.Picks.{first_open, same_counts, new_counts}
@@ -79,6 +82,13 @@ module _ (slots : Slots) (apart : AreApart slots) where
       let fits = whole_fits slots.most is_open.behind is_open.whole in
       let k : ℕ = 12 + body_length is_open.behind in
       stays_open slots.most d c k is_open refl (torn_before (suc k) at n d c (omega (arith, fits.0, apart, from)) (omega (arith, fits.1, ap length is_open.is)) torn)
+
+  pub gate_stays : (side : Side) (at n : ℕ) (d c : List ℕ) → base slots side ≤ at → at + n ≤ base slots side + (13 + slots.most) → (side ≡ Second → (x : ℕ × List ℕ) × (slot_at slots First d ≡ Some x)) → Torn at n d c → is_shut (drop (base slots (other side)) c) ≡ is_shut (drop (base slots (other side)) d)
+  gate_stays First at n d c from to first torn = ap is_shut (torn_behind slots.second at n d c (omega (arith, apart, to)) torn)
+  gate_stays Second at n d c from to first torn =
+      let x = first refl in
+      let after = other_stays Second at n d c from to first torn ∙ x.1 in
+      open_gate slots.most c (open_from slots.most c x.0 after) ∙ sym (open_gate slots.most d (open_from slots.most d x.0 x.1))
 
   -- a change of one slot, call by call
   module _ (d : List ℕ) (change : NextChange) (body : List ℕ) (is : change ≡ next_change slots d) (small : change.generation < 2 ^ 64) (short : length body < 2 ^ 32) (within : length body ≤ slots.most) where
@@ -151,3 +161,75 @@ module _ (slots : Slots) (apart : AreApart slots) where
           | inl none ↦ same c (keeps_opening c torn) (inr none)
           | inr is_new ↦ inr (new c (keeps_opening c torn) is_new)
         ]
+
+    gate_then : (at n : ℕ) (m c : List ℕ) → base slots change.side ≤ at → at + n ≤ base slots change.side + (13 + slots.most) → Keeps m → Torn at n m c → is_shut (drop (base slots (other change.side)) c) ≡ is_shut (drop (base slots (other change.side)) m)
+    gate_then at n m c from to keeps torn = gate_stays change.side at n m c from to (first_of m keeps) torn
+
+    -- the file after it
+    abbrev after : List ℕ
+    after = put (base slots change.side) (1 ∷ []) (gate_filled (base slots change.side) change.shut (payload change.generation body) d)
+
+    after_torn : Torn (base slots change.side) 1 (gate_filled (base slots change.side) change.shut (payload change.generation body) d) after
+    after_torn = put_torn (base slots change.side) (1 ∷ []) (gate_filled (base slots change.side) change.shut (payload change.generation body) d)
+
+    after_own : slot_at slots change.side after ≡ Some (change.generation, body)
+    after_own =
+        ap (slot slots.most) (opened_is (base slots change.side) (payload change.generation body) (gate_closed (base slots change.side) change.shut d))
+        ∙ new_slot slots.most change.generation body (drop (base slots change.side + 1 + length (payload change.generation body)) (gate_closed (base slots change.side) change.shut d)) small short within
+
+    after_stands : stands slots after ≡ Some (changed change body)
+    after_stands = new after (keeps_opening after after_torn) after_own
+
+    after_gate : is_shut (drop (base slots (other change.side)) after) ≡ change.other_shut
+    after_gate =
+        gate_then (base slots change.side) 1 (gate_filled (base slots change.side) change.shut (payload change.generation body) d) after (omega arith) (omega arith) keeps_filled after_torn
+        ∙ gate_then (base slots change.side + 1) (length (payload change.generation body)) (gate_closed (base slots change.side) change.shut d) (gate_filled (base slots change.side) change.shut (payload change.generation body) d)
+        (omega arith) (omega (arith, payload_length change.generation body, within)) keeps_closed (put_torn (base slots change.side + 1) (payload change.generation body) (gate_closed (base slots change.side) change.shut d))
+        ∙ gate_then (base slots change.side) 1 d (gate_closed (base slots change.side) change.shut d) (omega arith) (omega arith) keeps_none (closed_torn (base slots change.side) change.shut d)
+        ∙ ap (λ side. is_shut (drop (base slots (other side)) d)) side_is ∙ sym (ap (λ (n : NextChange). n.other_shut) is)
+
+    after_open : (side : Side) → side ≡ change.side → is_shut (drop (base slots (other (other side))) after) ≡ false
+    after_open First is = open_is_not_shut First is
+      where
+        open_is_not_shut : (side : Side) → side ≡ change.side → is_shut (drop (base slots side) after) ≡ false
+        open_is_not_shut side is = ap (λ side. is_shut (drop (base slots side) after)) is ∙ ap is_shut (opened_is (base slots change.side) (payload change.generation body) (gate_closed (base slots change.side) change.shut d))
+    after_open Second is = open_is_not_shut Second is
+      where
+        open_is_not_shut : (side : Side) → side ≡ change.side → is_shut (drop (base slots side) after) ≡ false
+        open_is_not_shut side is = ap (λ side. is_shut (drop (base slots side) after)) is ∙ ap is_shut (opened_is (base slots change.side) (payload change.generation body) (gate_closed (base slots change.side) change.shut d))
+
+    pub after_is : IsChanged slots change body (change_after change) after
+    after_is = record {
+      now_stands = after_stands;
+      now_next = ap (λ o. change_to slots (next_side o) (next_generation o) after) after_stands
+          ∙ ap (λ b. record { side = other change.side; generation = generation_after change.generation; shut = b; other_shut = is_shut (drop (base slots (other (other change.side))) after) }) after_gate
+          ∙ ap (λ b. record { side = other change.side; generation = generation_after change.generation; shut = change.other_shut; other_shut = b }) (after_open change.side refl);
+    }
+
+seen_gated : (s : Story) (at : ℕ) (shut : Bool) (bytes : List ℕ) → seen (with_events (gated at shut bytes) s) ≡ put at (1 ∷ []) (gate_filled at shut bytes (seen s))
+seen_gated s at true bytes = refl
+seen_gated s at false bytes = refl
+
+-- as the disk tells it
+module _ (slots : Slots) (change : NextChange) (bytes : List ℕ) (apart : AreApart slots) (payload_is : IsPayload change.generation bytes) (small : change.generation < 2 ^ 64) (short : slots.most < 2 ^ 32) (within : length bytes ≤ 12 + slots.most) where
+  length_is : length bytes ≡ 12 + length (body_of bytes)
+  length_is = ap length payload_is ∙ payload_length change.generation (body_of bytes)
+
+  pub change_story : (r : Result (Unit {0}) Failed) (s s' : Story) → change ≡ next_change slots (seen s) → Gates (base slots change.side) change.shut bytes r s s' → Changes slots change (body_of bytes) r s s'
+  change_story r s s' is gates =
+      let same : Gates (base slots change.side) change.shut (payload change.generation (body_of bytes)) r s s' = subst (λ b. Gates (base slots change.side) change.shut b r s s') payload_is gates in
+      steps_map (MayLeave (base slots change.side) change.shut (payload change.generation (body_of bytes)) (seen s)) (IsBeforeOrAfter slots change (body_of bytes) (seen s)) (gated (base slots change.side) change.shut (payload change.generation (body_of bytes))) r s s'
+      (change_leaves slots apart (seen s) change (body_of bytes) is small (omega (arith, length_is, short, within)) (omega (arith, length_is, within))) same
+
+  pub change_told : (o o' : Option Story) (r : Result (Unit {0}) Failed) → IfTold (λ s. change ≡ next_change slots (seen s)) o → Told (Gates (base slots change.side) change.shut bytes r) o o' → Told (Changes slots change (body_of bytes) r) o o'
+  change_told None o' r is told = told
+  change_told (Some s) o' r is told = (told.0, told.1, change_story r s told.0 is told.2)
+
+  pub change_done : (o o' : Option Story) (u : Unit {0}) → IfTold (λ s. change ≡ next_change slots (seen s)) o → Told (Gates {T = Unit {0}} {E = Failed} (base slots change.side) change.shut bytes (Ok u)) o o' → IfTold (λ s. IsChanged slots change (body_of bytes) (change_after change) (seen s)) o'
+  change_done None o' u is told = subst (IfTold (λ s. IsChanged slots change (body_of bytes) (change_after change) (seen s))) (sym told) tt
+  change_done (Some s) o' u is told =
+      let story : told.0 ≡ with_events (gated (base slots change.side) change.shut (payload change.generation (body_of bytes))) s = told.2.done ∙ ap (λ b. with_events (gated (base slots change.side) change.shut b) s) payload_is in
+      let seen_is = ap seen story ∙ seen_gated s (base slots change.side) change.shut (payload change.generation (body_of bytes)) in
+      subst (IfTold (λ s. IsChanged slots change (body_of bytes) (change_after change) (seen s))) (sym told.1)
+      (subst (IsChanged slots change (body_of bytes) (change_after change)) (sym seen_is)
+      (after_is slots apart (seen s) change (body_of bytes) is small (omega (arith, length_is, short, within)) (omega (arith, length_is, within))))

@@ -101,6 +101,22 @@ AreApart slots = 13 + slots.most ≤ slots.second
 abbrev pub changed : NextChange → List ℕ → Standing
 changed change body = record { side = change.side; generation = change.generation; body = body }
 
+-- and the next change is to the other one
+abbrev pub change_after : NextChange → NextChange
+change_after change = record {
+  side = other change.side;
+  generation = generation_after change.generation;
+  shut = change.other_shut;
+  other_shut = false;
+}
+
+-- bytes that stand behind a gate, and the body in them
+abbrev pub body_of : List ℕ → List ℕ
+body_of bytes = drop 12 bytes
+
+abbrev pub IsPayload : ℕ → List ℕ → Type 0
+IsPayload generation bytes = bytes ≡ payload generation (body_of bytes)
+
 -- a file stands for what it stood for before a change, or for what it stands for after it
 abbrev pub IsBeforeOrAfter : Slots → NextChange → List ℕ → List ℕ → List ℕ → Type 0
 IsBeforeOrAfter slots change body before c = (stands slots c ≡ stands slots before) ⊎ (stands slots c ≡ Some (changed change body))
