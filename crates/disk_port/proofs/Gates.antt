@@ -1,14 +1,14 @@
 -- The calls of a gated change, one after another.
-use Rattle.std.proofs.Common.{◌≡◌, ◌⊎◌, inl, inr, ℕ, ◌+◌, List, [], ◌∷◌, ◌++◌, length, Bool, true, false, IsTrue, Option, None, Some, Result, Ok, Err, OnOk, refl, ap, sym, ◌∙◌, subst}
+use Rattle.std.proofs.Common.{◌≡◌, ◌⊎◌, inl, inr, ℕ, ◌+◌, List, [], ◌∷◌, length, Bool, true, false, IsTrue, Option, None, Some, Result, Ok, Err, OnOk, refl, ap, sym, ◌∙◌, subst}
 use Rattle.std.proofs.lemmas.Bool.{false≢true}
 use Rattle.fdo_ports.specs.declared.failed.Failed.{Failed}
-use Rattle.disk_port.specs.Story.{Event, Wrote, Tore, Synced, Story, readable, seen, with_events, is_synced, put}
+use Rattle.disk_port.specs.Story.{Wrote, Tore, Synced, Story, seen, with_events, is_synced, put}
 use Rattle.disk_port.specs.Crash.{Torn, Leaves}
 use Rattle.disk_port.specs.Told.{Told, rests, Writes, Syncs}
-use Rattle.disk_port.specs.Moments.{Moments, Steps}
-use Rattle.disk_port.specs.Gated.{put_down, PutsDown, closing, opening, Closes, Opens, Gates, gate_closed, gate_filled, MayLeave}
+use Rattle.disk_port.specs.Moments.{Moments}
+use Rattle.disk_port.specs.Gated.{put_down, PutsDown, closing, opening, Closes, Opens, Gates, gate_closed, MayLeave}
 use Rattle.disk_port.proofs.Written.{put_torn, torn_same}
-use Rattle.disk_port.proofs.Stepping.{only, moments_none, moments_one, moments_map, steps_map, steps_failed, steps_then}
+use Rattle.disk_port.proofs.Stepping.{only, moments_none, moments_one, moments_map, steps_map, steps_then}
 
 module _ (s : Story) (at : ℕ) (piece : List ℕ) (rest : is_synced s.events ≡ true) where
   now : (c : List ℕ) → Leaves s.image s.events c → Torn at (length piece) (seen s) c

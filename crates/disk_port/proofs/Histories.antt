@@ -1,7 +1,7 @@
 -- One more call is kept.
 use Rattle.std.proofs.Common.{◌≡◌, ℕ, ◌+◌, ◌<◌, length, take, get_or, sym, List, [], ◌∷◌, ◌++◌, map, reverse, ap, ◌∙◌}
 use Rattle.std.proofs.lemmas.List.{map-append, reverse-append, take_more}
-use Rattle.disk_port.specs.Story.{Event, readable}
+use Rattle.disk_port.specs.Story.{readable}
 use Rattle.disk_port.specs.History.{event_of, events_of}
 use Rattle.disk_port.specs.Picked.{picked}
 use Rattle.disk_port.specs.declared.stops.Pick.{Pick}

@@ -1,8 +1,8 @@
 -- What is read, and what a stop leaves, are among what a crash may leave.
-use Rattle.std.proofs.Common.{◌≡◌, inl, inr, ℕ, ◌-◌, nat_le, ◌==◌, Bool, true, false, if◌then◌else◌, List, [], ◌∷◌, length, replicate, refl, ap, sym, ◌∙◌, subst}
+use Rattle.std.proofs.Common.{◌≡◌, inl, inr, ℕ, ◌-◌, nat_le, ◌==◌, Bool, true, false, if◌then◌else◌, List, [], ◌∷◌, length, replicate, refl, sym, subst}
 use Rattle.std.proofs.lemmas.List.{length-replicate}
 use Rattle.std.proofs.lemmas.Bool.{false≢true}
-use Rattle.disk_port.specs.Story.{Event, Wrote, Tore, Synced, Story, put, readable, seen}
+use Rattle.disk_port.specs.Story.{Event, Wrote, Tore, Synced, Story, put, readable}
 use Rattle.disk_port.specs.Crash.{Torn, Leaves}
 use Rattle.disk_port.specs.Picked.{left_of, picked, left_at, left_kept, has_come}
 use Rattle.disk_port.specs.Turn.{nearer, stop_in}

@@ -1,6 +1,6 @@
 -- One slot, seen from its gate on.
-use Rattle.std.proofs.Common.{◌≡◌, ◌⊎◌, inl, inr, ℕ, suc, ◌+◌, ◌-◌, ◌^◌, ◌≤◌, ◌<◌, ◌&&◌, nat_le, List, [], ◌∷◌, ◌++◌, length, take, drop, min, Bool, true, false, Option, None, Some, refl, ap, sym, ◌∙◌, subst, arith, append_assoc, length-append, length-drop}
-use Rattle.std.proofs.lemmas.List.{take_all, take_at, drop_at, drop-append-le, take-append-le, take-append-drop, length-take-le}
+use Rattle.std.proofs.Common.{◌≡◌, ◌⊎◌, inl, inr, ℕ, suc, ◌+◌, ◌^◌, ◌≤◌, ◌<◌, ◌&&◌, nat_le, List, [], ◌∷◌, ◌++◌, length, take, drop, min, true, false, None, Some, refl, ap, sym, ◌∙◌, subst, arith, append_assoc, length-append, length-drop}
+use Rattle.std.proofs.lemmas.List.{take_all, drop_at, drop-append-le, take-append-le, take-append-drop, length-take-le}
 use Rattle.std.proofs.lemmas.Bool.{cases_eq, cases_Bool, false≢true}
 use Rattle.std.proofs.lemmas.Bool.Decides.{nat_tests}
 use Rattle.byteorder.specs.Endian.{big_number, big_bytes}
@@ -187,3 +187,10 @@ opening_torn most g gate body r (h ∷ b) small short within torn = elim (cases_
   where
     whole : (h : ℕ) (b : List ℕ) → h ≡ 1 → b ≡ payload g body ++ r → h ∷ b ≡ 1 ∷ (payload g body ++ r)
     whole h b is_open same = cc
+
+pub payload_rest : (g : ℕ) (body : List ℕ) → drop 12 (payload g body) ≡ body
+unfolding payload
+payload_rest g body =
+    let head : List ℕ = big_bytes 8 g ++ big_bytes 4 (length body) in
+    ap (drop 12) (sym (append_assoc (big_bytes 8 g) (big_bytes 4 (length body)) body))
+    ∙ drop_at head body 12 (omega (arith, length-append (big_bytes 8 g) (big_bytes 4 (length body)), length-bytes_high_first 8 g, length-bytes_high_first 4 (length body)))

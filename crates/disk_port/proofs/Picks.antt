@@ -1,8 +1,8 @@
 -- Which of two slots counts.
-use Rattle.std.proofs.Common.{◌≡◌, ◌⊎◌, inl, inr, ℕ, ◌+◌, ◌-◌, ◌^◌, ◌<◌, ◌==◌, ◌&&◌, nat_lt, List, Bool, true, false, if◌then◌else◌, Option, None, Some, refl, ap, sym, ◌∙◌, subst, arith}
-use Rattle.std.proofs.lemmas.Bool.{cases_eq, cases_Bool, false≢true}
+use Rattle.std.proofs.Common.{◌≡◌, ◌⊎◌, inl, inr, ℕ, ◌^◌, ◌<◌, List, true, false, Option, None, Some, refl, ap, sym, ◌∙◌, subst, arith}
+use Rattle.std.proofs.lemmas.Bool.{cases_Bool}
 use Rattle.std.proofs.lemmas.Bool.Decides.{nat_tests}
-use Rattle.disk_port.specs.Slots.{generation_after, is_newer, Standing, standing, newest, other, next_side, next_generation}
+use Rattle.disk_port.specs.Slots.{generation_after, is_newer, standing, newest, other, next_side, next_generation}
 use Rattle.disk_port.specs.declared.side.Side.{Side}
 use Rattle.disk_port.specs.declared.side.Side.TheVariants.{First, Second}
 

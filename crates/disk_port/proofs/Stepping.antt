@@ -1,7 +1,7 @@
 -- From moment to moment.
-use Rattle.std.proofs.Common.{◌≡◌, ◌⊎◌, inl, inr, ℕ, List, [], ◌∷◌, ◌++◌, length, Bool, true, false, IsTrue, Option, None, Some, Result, Ok, Err, OnOk, refl, ap, sym, ◌∙◌, subst, append_assoc}
-use Rattle.disk_port.specs.Story.{Event, Wrote, Tore, Synced, Story, readable, seen, with_events, is_synced, put}
-use Rattle.disk_port.specs.Crash.{Torn, Leaves}
+use Rattle.std.proofs.Common.{◌≡◌, ℕ, List, [], ◌∷◌, ◌++◌, true, Result, Ok, Err, refl, ap, sym, ◌∙◌, subst, append_assoc}
+use Rattle.disk_port.specs.Story.{Event, Wrote, Tore, Synced, Story, readable, with_events, is_synced}
+use Rattle.disk_port.specs.Crash.{Leaves}
 use Rattle.disk_port.specs.Moments.{Always, Moments, Steps}
 
 -- at rest, a crash leaves what is read

@@ -1,7 +1,7 @@
 -- A file of two slots under writes that are cut short.
-use Rattle.std.proofs.Common.{◌≡◌, ◌⊎◌, inl, inr, ℕ, suc, ◌+◌, ◌-◌, ◌^◌, ◌≤◌, ◌<◌, List, [], ◌∷◌, ◌++◌, length, take, drop, get_or, min, max, Bool, true, false, Option, None, Some, Result, Ok, Err, refl, ap, sym, ◌∙◌, subst, arith, length-drop}
-use Rattle.std.proofs.lemmas.List.{take_all, take-take, drop-take, drop-drop, drop_all, drop_more}
-use Rattle.std.proofs.lemmas.Bool.{cases_lt, cases_Bool}
+use Rattle.std.proofs.Common.{◌≡◌, ◌⊎◌, inl, inr, ℕ, suc, ◌+◌, ◌-◌, ◌^◌, ◌≤◌, ◌<◌, List, [], ◌∷◌, ◌++◌, length, take, drop, get_or, min, Bool, true, false, Option, None, Some, Result, Ok, refl, ap, sym, ◌∙◌, subst, arith, length-drop}
+use Rattle.std.proofs.lemmas.List.{take-take, drop-take, drop-drop, drop_more}
+use Rattle.std.proofs.lemmas.Bool.{cases_lt}
 use Rattle.fdo_ports.specs.declared.failed.Failed.{Failed}
 use Rattle.disk_port.specs.Story.{Story, put, seen, with_events}
 use Rattle.disk_port.specs.Told.{Told, IfTold}
@@ -14,7 +14,7 @@ use Rattle.disk_port.specs.declared.side.Side.TheVariants.{First, Second}
 use Rattle.disk_port.specs.declared.next_change.NextChange.{NextChange}
 use Rattle.disk_port.proofs.Stepping.{steps_map}
 use Rattle.disk_port.proofs.Written.{put_torn, torn_same, drop_put, length_put}
-use Rattle.disk_port.proofs.OneSlot.{IsOpen, open_from, whole_fits, stays_open, gate_torn, behind_torn, opening_torn, new_slot, open_gate, payload_length}
+use Rattle.disk_port.proofs.OneSlot.{IsOpen, open_from, whole_fits, stays_open, gate_torn, behind_torn, opening_torn, new_slot, open_gate, payload_length, payload_rest}
 use Rattle.disk_port.proofs.Picks.{first_open, same_counts, new_counts}
 
 -- seen from a place before it
@@ -233,3 +233,11 @@ module _ (slots : Slots) (change : NextChange) (bytes : List ℕ) (apart : AreAp
       subst (IfTold (λ s. IsChanged slots change (body_of bytes) (change_after change) (seen s))) (sym told.1)
       (subst (IsChanged slots change (body_of bytes) (change_after change)) (sym seen_is)
       (after_is slots apart (seen s) change (body_of bytes) is small (omega (arith, length_is, short, within)) (omega (arith, length_is, within))))
+
+-- there is some of it
+pub payload_some : (generation : ℕ) (bytes : List ℕ) → IsPayload generation bytes → 0 < length bytes
+payload_some generation bytes is = omega (arith, ap length is, payload_length generation (body_of bytes))
+
+-- its body stands behind its head
+pub payload_body : (generation : ℕ) (body : List ℕ) → body_of (payload generation body) ≡ body
+payload_body generation body = payload_rest generation body

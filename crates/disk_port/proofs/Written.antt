@@ -1,8 +1,8 @@
 -- A write that is done, as one of those that are cut short.
-use Rattle.std.proofs.Common.{◌≡◌, inl, inr, ℕ, ◌+◌, ◌-◌, ◌≤◌, ◌<◌, List, [], ◌∷◌, ◌++◌, length, take, drop, replicate, min, max, refl, ap, sym, ◌∙◌, append_assoc, arith, length-append, length-drop}
-use Rattle.std.proofs.lemmas.List.{append-nil, take_all, take-take, drop-drop, drop_all, drop_at, take-append-le, drop-append-le, length-take, length-take-le, length-replicate}
+use Rattle.std.proofs.Common.{◌≡◌, inl, inr, ℕ, ◌+◌, ◌-◌, ◌≤◌, ◌<◌, List, ◌++◌, length, take, drop, replicate, min, max, refl, ap, sym, ◌∙◌, append_assoc, arith, length-append, length-drop}
+use Rattle.std.proofs.lemmas.List.{append-nil, take-take, drop-drop, drop_all, drop_at, take-append-le, length-take-le, length-replicate}
 use Rattle.std.proofs.lemmas.Bool.{cases_lt}
-use Rattle.disk_port.specs.Story.{widened, over, put}
+use Rattle.disk_port.specs.Story.{widened, put}
 use Rattle.disk_port.specs.Crash.{Torn}
 
 length_widened : (n : ℕ) (old : List ℕ) → length (widened n old) ≡ max n (length old)

@@ -1,6 +1,6 @@
 -- Bytes that count only behind a gate, a byte that is 1 where it is open. The gate is closed and on the disk before the
 -- bytes are written, and they are on the disk before it is opened.
-use Rattle.std.specs.Prelude.{◌≡◌, ◌⊎◌, ℕ, ◌+◌, List, [], ◌∷◌, ◌++◌, length, Bool, true, false, if◌then◌else◌, Result}
+use Rattle.std.specs.Prelude.{◌≡◌, ◌⊎◌, ℕ, ◌+◌, List, [], ◌∷◌, ◌++◌, length, Bool, false, if◌then◌else◌, Result}
 use Rattle.disk_port.specs.Story.{Event, Story, Wrote, Synced, put, seen}
 use Rattle.disk_port.specs.Crash.{Torn}
 use Rattle.disk_port.specs.Moments.{Steps}

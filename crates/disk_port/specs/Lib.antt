@@ -8,3 +8,4 @@ pub mod Picked
 pub mod Turn
 pub mod MemoryDisk
 pub mod Slots
+pub mod Found

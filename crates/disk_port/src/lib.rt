@@ -4,6 +4,7 @@
 
 pub mod bytes;
 pub mod disk;
+pub mod found;
 pub mod gated;
 pub mod history;
 pub mod kept;
@@ -17,9 +18,10 @@ pub mod stops;
 
 pub use bytes::Bytes;
 pub use disk::Disk;
+pub use found::Found;
 pub use gated::put_gated;
 pub use memory_disk::MemoryDisk;
-pub use next_change::NextChange;
+pub use next_change::{NextChange, generation_after};
 pub use side::Side;
 pub use slots::Slots;
 pub use stops::{Pick, Stops};
