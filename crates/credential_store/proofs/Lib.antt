@@ -1,0 +1,2 @@
+pub mod BodyBack
+pub mod PartLaws

@@ -1,0 +1,4 @@
+pub mod Parts
+pub mod Body
+pub mod Image
+pub mod Reserved
