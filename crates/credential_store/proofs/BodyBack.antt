@@ -1,6 +1,7 @@
 -- A credential is read back from the body that it is written as.
-use Rattle.std.proofs.Common.{if◌then◌else◌, ◌≡◌, ◌⊎◌, inl, inr, ℕ, suc, ◌+◌, ◌^◌, ◌<◌, ◌≤◌, true, false, List, [], ◌∷◌, ◌++◌, map, length, Option, Some, None, Result, Ok, Err, refl, sym, ap, subst, ◌∙◌, arith, lit<}
+use Rattle.std.proofs.Common.{if◌then◌else◌, ◌≡◌, ℕ, suc, ◌+◌, ◌^◌, ◌<◌, ◌≤◌, true, false, List, [], ◌∷◌, ◌++◌, map, length, Option, Some, None, Result, Ok, Err, refl, sym, ap, subst, ◌∙◌, arith, lit<}
 use Rattle.std.proofs.lemmas.Bool.{eq-eqb}
+use Rattle.std.proofs.lemmas.Bool.Decides.{nat_tests}
 use Rattle.std.specs.Str.{is_utf8}
 use Rattle.std.proofs.lemmas.List.{append-nil}
 use Rattle.cbor_core.specs.declared.item.Item.{Item, out-Item}
@@ -23,16 +24,15 @@ use Rattle.voucher_chain.specs.declared.credential.Credential.{Credential}
 use Rattle.voucher_chain.specs.Fault.{◌>>=◌}
 use Rattle.voucher_chain.specs.Header.{guid_in}
 use Rattle.voucher_chain.proofs.BackLaws.{of_layer, hash_inside}
-use Rattle.credential_store.specs.Body.{is_number, is_rv, rv_bytes_in, secret_in, alg_of, credential_with, credential_of, credential_in, credential_place, body_at, item_of_credential, body_of_credential, IsKept, IsInMemory}
+use Rattle.credential_store.specs.Body.{is_number, is_rv, rv_bytes_in, secret_in, is_alg, alg_of, credential_with, credential_of, credential_in, credential_place, body_at, item_of_credential, body_of_credential, IsKept, IsInMemory}
 
 -- ---- it is fit to be written
 
 text_fit : (n : ℕ) (t : List ℕ) → length t < 2 ^ 64 → is_utf8 t ≡ true → IsFitWithin (suc n) (items.Text t)
 text_fit n t small utf8 = of_layer n (items.Text t) (subst (IsFitLayer (IsFitWithin n)) (sym (items.outs-Text t)) (small, utf8))
 
-alg_small : (n : ℕ) → (n ≡ 5) ⊎ (n ≡ 6) → n < 2 ^ 64
-alg_small n (inl is) = omega arith
-alg_small n (inr is) = omega arith
+alg_small : (n : ℕ) → is_alg n ≡ true → n < 2 ^ 64
+alg_small n is = grind (arith, nat_tests)
 
 pub credential_fits : (c : Credential) → IsInMemory c → IsKept c → IsFit (item_of_credential c)
 credential_fits c here kept =
@@ -64,9 +64,8 @@ long_back n b size = ap (λ (o : Option (List ℕ)). o >>= of_length n) (content
 rv_back : (b : List ℕ) → is_rv b ≡ true → rv_bytes_in (items.Bytes b) ≡ Some b
 rv_back b is = ap (λ (o : Option (List ℕ)). o >>= λ bytes. if is_rv bytes then Some bytes else None) (content_back b) ∙ (rw is refl)
 
-alg_back : (n : ℕ) → (n ≡ 5) ⊎ (n ≡ 6) → alg_of (out-Item (items.Uint n)) ≡ Some n
-alg_back n (inl is) = ap alg_of (items.outs-Uint n) ∙ (rw is refl)
-alg_back n (inr is) = ap alg_of (items.outs-Uint n) ∙ (rw is refl)
+alg_back : (n : ℕ) → is_alg n ≡ true → alg_of (out-Item (items.Uint n)) ≡ Some n
+alg_back n is = ap alg_of (items.outs-Uint n) ∙ (rw is refl)
 
 six_back : (c : Credential) (guid rv info secret : Option (List ℕ)) (hash : Option Hash) (alg : Option ℕ) → guid ≡ Some c.guid → rv ≡ Some c.rv → info ≡ Some c.info → secret ≡ Some c.secret → hash ≡ Some c.key_hash → alg ≡ Some c.alg
     → (guid >>= λ guid. rv >>= λ rv. info >>= λ info. secret >>= λ secret. hash >>= λ hash. alg >>= λ alg. Some (record { guid = guid; rv = rv; info = info; secret = secret; key_hash = hash; alg = alg })) ≡ Some c

@@ -3,7 +3,7 @@
 -- header's key, and the kind of the HMAC. Version 1 has the number 1 and no kind, which is that of HMAC-SHA-256 (5), and at most
 -- 8,000 bytes.
 use Rattle.std.specs.Str.{is_utf8}
-use Rattle.std.specs.Prelude.{◌≡◌, ◌⊎◌, ℕ, ◌<◌, ◌^◌, ◌==◌, ◌||◌, nat_le, List, [], ◌∷◌, length, Bool, true, false, if◌then◌else◌, is_some, Option, Some, None, Result, Ok, Err}
+use Rattle.std.specs.Prelude.{◌≡◌, ℕ, ◌<◌, ◌^◌, ◌==◌, ◌||◌, nat_le, List, [], ◌∷◌, length, Bool, true, false, if◌then◌else◌, is_some, Option, Some, None, Result, Ok, Err}
 use Rattle.cbor_core.specs.declared.fault.CborFault.{CborFault}
 use Rattle.cbor_core.specs.declared.item.Item.{Item, out-Item}
 use Rattle.cbor_core.specs.declared.item.Item.TheOpen.{Item-F}
@@ -41,8 +41,11 @@ abbrev pub secret_in : Item → Option (List ℕ)
 secret_in x = bytes_in (out-Item x) >>= of_length 32
 
 -- HMAC-SHA-256 or HMAC-SHA-384
+abbrev pub is_alg : ℕ → Bool
+is_alg n = (n == 5) || (n == 6)
+
 abbrev pub alg_of : Item-F Item → Option ℕ
-alg_of (Item-F.Uint n) = if (n == 5) || (n == 6) then Some n else None
+alg_of (Item-F.Uint n) = if is_alg n then Some n else None
 alg_of _ = None
 
 -- ---- reading
@@ -131,7 +134,7 @@ body_of_credential c = det (item_of_credential c)
 pub record IsKept (c : Credential) : Type 0 where
   pub rv : is_rv c.rv ≡ true
   pub key_hash : IsConsistent c.key_hash
-  pub alg : (c.alg ≡ 5) ⊎ (c.alg ≡ 6)
+  pub alg : is_alg c.alg ≡ true
 
 -- what holds of any credential in memory
 pub record IsInMemory (c : Credential) : Type 0 where

@@ -1,4 +1,5 @@
 pub mod Parts
 pub mod Body
 pub mod Image
+pub mod Store
 pub mod Reserved

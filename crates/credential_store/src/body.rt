@@ -1,16 +1,19 @@
-ghost use Rattle.std.specs.Prelude.{◌≡◌, ℕ, ◌<◌, ◌^◌, true, IfOk, length, is_some, if◌then◌else◌, Some, None, Ok};
+ghost use Rattle.std.specs.Prelude.{◌≡◌, ℕ, ◌<◌, ◌^◌, true, IfOk, IfSome, length, is_some, if◌then◌else◌, Some, None, Ok};
 ghost use Rattle.std.specs.Str.{is_utf8};
 ghost use Rattle.cbor_core.specs.declared.item.Item.TheVariants as items;
 ghost use Rattle.cbor_core.specs.declared.item.Item.{out-Item};
-ghost use Rattle.cbor_core.specs.Spots.{spot_item, text_in};
+ghost use Rattle.cbor_core.specs.Spots.{start, spot_item, text_in};
+ghost use Rattle.hash_hmac.specs.Value.{IsConsistent};
 ghost use Rattle.key_codec.specs.Fault.{ok_of};
 ghost use Rattle.key_codec.specs.Hash.{hash_in, item_of_hash};
 ghost use Rattle.voucher_chain.specs.Header.{guid_in};
 ghost use Rattle.credential_store.specs.Parts.{seven_spots};
-ghost use Rattle.credential_store.specs.Body.{is_number, is_rv, rv_bytes_in, secret_in, alg_of, credential_with, credential_in, parts_place, place_by_seven, credential_place, item_of_credential, body_of_credential, body_at, IsKept, IsInMemory};
+ghost use Rattle.credential_store.specs.Store.{Reads, IsAt};
+ghost use Rattle.credential_store.specs.Body.{is_number, is_rv, rv_bytes_in, secret_in, is_alg, alg_of, credential_with, credential_in, parts_place, place_by_seven, credential_place, item_of_credential, body_of_credential, body_at, IsKept, IsInMemory};
 
+use crate::fault::ImageFault;
 use crate::parts::seven;
-use cbor_core::{Blob, CborFault, Item, Items, NoMemory, Part, Text, exactly, read_wire, write_det};
+use cbor_core::{Blob, CborFault, Item, Items, NoMemory, Part, Text, exactly, read_det, read_wire, write_det};
 use hash_hmac::Hash;
 use key_codec::{find_hash_fault, hash_item, read_hash};
 use std::alloc::Global;
@@ -44,7 +47,8 @@ fn read_secret(item: &Item) -> Option<[u8; 32]>
 }
 
 fn read_alg(item: &Item) -> Option<u8>
-    ensures { result ≡ alg_of (out-Item item.now) }
+    ensures alg { result ≡ alg_of (out-Item item.now) }
+    ensures known { IfSome result (λ n. is_alg n ≡ true) }
 {
     match item {
         Item::Uint(n) if *n == 5 || *n == 6 => Some(*n as u8),
@@ -71,7 +75,8 @@ fn is_rv(alloc: Global, bytes: &[u8]) -> Result<bool, NoMemory>
 }
 
 fn read_rv_bytes(alloc: Global, item: &Item) -> Result<Option<Blob>, NoMemory>
-    ensures { IfOk result (λ rv. rv ≡ rv_bytes_in item.now) }
+    ensures rv { IfOk result (λ rv. rv ≡ rv_bytes_in item.now) }
+    ensures is { IfOk result (λ rv. IfSome rv (λ bytes. is_rv bytes ≡ true)) }
 {
     match item {
         Item::Bytes(bytes) => {
@@ -95,7 +100,8 @@ fn read_info(item: &Item) -> Result<Option<Text>, NoMemory>
 }
 
 fn read_key_hash(item: &Item) -> Option<Hash>
-    ensures { result ≡ ok_of (hash_in item.now) }
+    ensures hash { result ≡ ok_of (hash_in item.now) }
+    ensures known { IfSome result IsConsistent }
 {
     match read_hash(item) {
         Ok(hash) => Some(hash),
@@ -113,7 +119,9 @@ fn read_parts(
     hash: &Item,
     alg: Option<u8>,
 ) -> Result<Option<Credential>, NoMemory>
-    ensures { IfOk result (λ c. c ≡ credential_with guid.now rv.now info.now secret.now hash.now alg) }
+    requires { IfSome alg (λ n. is_alg n ≡ true) }
+    ensures credential { IfOk result (λ c. c ≡ credential_with guid.now rv.now info.now secret.now hash.now alg) }
+    ensures kept { IfOk result (λ c. IfSome c IsKept) }
 {
     let guid = read_guid(guid);
     let rv = read_rv_bytes(alloc, rv)?;
@@ -133,10 +141,11 @@ fn read_parts(
     }
 }
 
-/// The credential that the item of a body of so many bytes says, and whether it is of version 1.
+/// The credential that the item of a body of so many bytes says.
 #[tactic(auto, unfolding(crate::specs::Body::credential_in))]
 fn read_item(alloc: Global, length: usize, item: &Item) -> Result<Option<Credential>, NoMemory>
-    ensures { IfOk result (λ c. c ≡ credential_in length item.now) }
+    ensures credential { IfOk result (λ c. c ≡ credential_in length item.now) }
+    ensures kept { IfOk result (λ c. IfSome c IsKept) }
 {
     let Item::Array(parts) = item else {
         return Ok(None);
@@ -157,6 +166,52 @@ fn read_item(alloc: Global, length: usize, item: &Item) -> Result<Option<Credent
             }
         }
         _ => Ok(None),
+    }
+}
+
+/// The credential that a body holds, or the place in it of its first fault.
+pub(crate) fn read_body(alloc: Global, body: &[u8]) -> Result<Credential, ImageFault>
+    ensures read { Reads (body_at body.now) result }
+    ensures kept { IfOk result IsKept }
+{
+    match read_det(alloc, body) {
+        Ok((item, read)) => match read_item(alloc, body.len(), &item)? {
+            Some(credential) => {
+                if read == body.len() {
+                    Ok(credential)
+                } else {
+                    Err(ImageFault::Foreign(read as u64))
+                }
+            }
+            None => Err(ImageFault::Foreign(find_body_fault(alloc, body)?)),
+        },
+        Err(fault) => Err(cbor_fault(fault)),
+    }
+}
+
+/// A fault of the deterministic encoding.
+fn cbor_fault(fault: CborFault) -> ImageFault
+    ensures { IsAt fault result }
+{
+    match fault {
+        CborFault::Truncated(place)
+        | CborFault::Malformed(place)
+        | CborFault::TooDeep(place)
+        | CborFault::Duplicate(place)
+        | CborFault::Float(place)
+        | CborFault::NotDeterministic(place) => ImageFault::Foreign(place as u64),
+        CborFault::NoMemory => ImageFault::NoMemory,
+    }
+}
+
+/// Where a body in the deterministic encoding that holds no credential is not of its form.
+fn find_body_fault(alloc: Global, body: &[u8]) -> Result<u64, NoMemory>
+    ensures { IfOk result (λ at. at ≡ credential_place (length body.now) (start body.now)) }
+{
+    match Part::open(alloc, body) {
+        Ok((part, _read)) => Ok(find_fault(alloc, body.len(), &part)? as u64),
+        // What was read as deterministic is read again, so it is memory that lacks.
+        Err(_) => Err(NoMemory),
     }
 }
 

@@ -3,8 +3,10 @@
 #![tactic(auto)]
 
 mod body;
+pub mod fault;
+pub mod image;
 mod parts;
-mod reserved;
-pub mod store;
+pub mod reserved;
 
-pub use store::CredentialStore;
+pub use fault::{ImageFault, OpenFault, ReserveFault};
+pub use image::read_image;
