@@ -241,3 +241,9 @@ payload_some generation bytes is = omega (arith, ap length is, payload_length ge
 -- its body stands behind its head
 pub payload_body : (generation : ℕ) (body : List ℕ) → body_of (payload generation body) ≡ body
 payload_body generation body = payload_rest generation body
+
+pub payload_whole : (generation : ℕ) (body bytes : List ℕ) → bytes ≡ payload generation body → IsPayload generation bytes
+payload_whole generation body bytes is = is ∙ ap (payload generation) (sym (payload_body generation body) ∙ ap body_of (sym is))
+
+pub payload_long : (generation : ℕ) (body bytes : List ℕ) → bytes ≡ payload generation body → length bytes ≡ 12 + length body
+payload_long generation body bytes is = ap length is ∙ payload_length generation body

@@ -74,11 +74,13 @@ impl Slots {
     }
 
     /// The bytes behind the gate of a slot of this generation that holds this body: what a change writes.
-    #[tactic(auto, using(crate::proofs::TwoSlots::payload_body), unfolding(crate::specs::Slots::payload))]
+    #[tactic(auto, using(crate::proofs::TwoSlots::payload_body, crate::proofs::TwoSlots::payload_whole, crate::proofs::TwoSlots::payload_long), unfolding(crate::specs::Slots::payload))]
     pub fn payload(self, alloc: Global, generation: u64, body: &[u8]) -> Result<Vec<u8>, AllocError>
         requires { length body.now ≤ self.most }
         ensures bytes { IfOk result (λ bytes. bytes.items ≡ payload generation body.now) }
         ensures body { IfOk result (λ bytes. body_of bytes.items ≡ body.now) }
+        ensures whole { IfOk result (λ bytes. IsPayload generation bytes.items) }
+        ensures length { IfOk result (λ bytes. length bytes.items ≡ 12 + length body.now) }
     {
         let mut bytes = Vec::from_slice(alloc, &payload_head(generation, body.len() as u32))?;
         bytes.extend_from_slice(body)?;
