@@ -1,2 +1,3 @@
 pub mod BodyBack
+pub mod OpenLaws
 pub mod PartLaws

@@ -3,3 +3,4 @@ pub mod Body
 pub mod Image
 pub mod Store
 pub mod Reserved
+pub mod Loading

@@ -1,14 +1,16 @@
 -- A store as its callers see it, and its answers.
-use Rattle.std.specs.Prelude.{◌≡◌, ◌<◌, ℕ, List, length, Option, Some, None, Result, Ok, Err}
+use Rattle.std.specs.Prelude.{◌≡◌, ◌⊎◌, ◌<◌, ℕ, List, [], ◌∷◌, length, Bool, true, Option, Some, None, Result, Ok, Err}
 use Rattle.disk_port.specs.Story.{Story, Synced, seen, with_events}
-use Rattle.disk_port.specs.Told.{IfTold}
+use Rattle.disk_port.specs.Told.{IfTold, rests}
+use Rattle.disk_port.specs.Slots.{stands, next_change}
+use Rattle.disk_port.specs.declared.next_change.NextChange.{NextChange}
 use Rattle.port_base.specs.Count.{Rises}
 use Rattle.cbor_core.specs.declared.fault.CborFault.{CborFault}
 use Rattle.cbor_core.specs.declared.fault.CborFault.TheVariants as cbor
 use Rattle.cbor_core.specs.Whole.{place_of}
 use Rattle.voucher_chain.specs.declared.credential.Credential.{Credential}
 use Rattle.credential_store.specs.Body.{body_of_credential}
-use Rattle.credential_store.specs.Image.{credential_at}
+use Rattle.credential_store.specs.Image.{credential_slots, credential_at, is_old, Holds}
 use Rattle.credential_store.specs.declared.fault.ImageFault.{ImageFault}
 use Rattle.credential_store.specs.declared.fault.ImageFault.TheVariants as image
 use Rattle.credential_store.specs.declared.fault.OpenFault.{OpenFault}
@@ -62,3 +64,34 @@ CountsOpening (Err fault) before now = Blames fault before now
 abbrev pub IsTooBig : Credential → ReserveFault → Type 0
 IsTooBig c (reserving.TooBig n) = (n ≡ length (body_of_credential c)) × (8100 < n)
 IsTooBig c reserving.NoMemory = Unit {0}
+
+-- a file was synced and read: its content, its next change, and whether its body is of version 1
+pub record IsLoaded (credential : Option Credential) (next : NextChange) (old : Bool) (image : List ℕ) : Type 0 where
+  pub content : credential_at image ≡ Ok credential
+  pub next_right : next_change credential_slots image ≡ next
+  pub old_right : old ≡ is_old (stands credential_slots image)
+
+-- loading syncs, and where the disk failed maybe not
+abbrev pub Loads : {T : Type 0} → Result T OpenFault → Story → Story → Type 0
+Loads (Err opening.Disk) s s' = (s' ≡ s) ⊎ (s' ≡ with_events (Synced ∷ []) s)
+Loads (Err (opening.Foreign place)) s s' = s' ≡ with_events (Synced ∷ []) s
+Loads (Err opening.NoMemory) s s' = s' ≡ with_events (Synced ∷ []) s
+Loads (Ok _) s s' = s' ≡ with_events (Synced ∷ []) s
+
+-- reading fails, but not since something foreign stands there
+abbrev pub IsOwn : OpenFault → Type 0
+IsOwn opening.Disk = Unit {0}
+IsOwn (opening.Foreign place) = ⊥
+IsOwn opening.NoMemory = Unit {0}
+
+-- what a store is made of
+pub record IsReady (told : Option Story) (credential : Option Credential) (next : NextChange) : Type 0 where
+  pub rested : rests told ≡ true
+  pub next_right : IfTold (λ s. next_change credential_slots (seen s) ≡ next) told
+  pub content : Holds told credential
+
+-- an image that stands for nothing
+abbrev pub IsForeign : List ℕ → OpenFault → Type 0
+IsForeign image opening.Disk = ⊥
+IsForeign image (opening.Foreign place) = credential_at image ≡ Err place
+IsForeign image opening.NoMemory = Unit {0}

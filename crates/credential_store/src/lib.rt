@@ -5,8 +5,10 @@
 mod body;
 pub mod fault;
 pub mod image;
+mod loading;
 mod parts;
 pub mod reserved;
+mod slot;
 
 pub use fault::{ImageFault, OpenFault, ReserveFault};
 pub use image::read_image;
