@@ -9,6 +9,8 @@ mod loading;
 mod parts;
 pub mod reserved;
 mod slot;
+pub mod store;
 
 pub use fault::{ImageFault, OpenFault, ReserveFault};
 pub use image::read_image;
+pub use store::CredentialStore;
