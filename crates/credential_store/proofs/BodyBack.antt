@@ -1,5 +1,5 @@
 -- A credential is read back from the body that it is written as.
-use Rattle.std.proofs.Common.{if◌then◌else◌, ◌≡◌, ℕ, suc, ◌+◌, ◌^◌, ◌<◌, ◌≤◌, true, false, List, [], ◌∷◌, ◌++◌, map, length, Option, Some, None, Result, Ok, Err, refl, sym, ap, subst, ◌∙◌, arith, lit<}
+use Rattle.std.proofs.Common.{if◌then◌else◌, ◌≡◌, ℕ, suc, ◌^◌, ◌<◌, true, List, [], ◌∷◌, length, Option, Some, None, Ok, refl, sym, ap, subst, ◌∙◌, arith, lit<}
 use Rattle.std.proofs.lemmas.Bool.{eq-eqb}
 use Rattle.std.proofs.lemmas.Bool.Decides.{nat_tests}
 use Rattle.std.specs.Str.{is_utf8}
@@ -8,11 +8,10 @@ use Rattle.cbor_core.specs.declared.item.Item.{Item, out-Item}
 use Rattle.cbor_core.specs.declared.item.Item.TheOpen.{Item-F}
 use Rattle.cbor_core.specs.declared.item.Item.TheFolds.{fold-roll-Item}
 use Rattle.cbor_core.specs.declared.item.Item.TheVariants as items
-use Rattle.cbor_core.specs.Deterministic.{det}
 use Rattle.cbor_core.specs.Norm.{norm, norm_step, IsFit, IsFitLayer, IsFitWithin, IsReadBack}
 use Rattle.cbor_core.specs.Reading.{first_item}
 use Rattle.cbor_core.specs.Shapes.{array_layer, of_length}
-use Rattle.cbor_core.specs.Spots.{Spot, bytes_in, text_in}
+use Rattle.cbor_core.specs.Spots.{bytes_in, text_in}
 use Rattle.cbor_core.specs.Whole.{said_of, ended}
 use Rattle.cbor_core.proofs.NormLaws.{norm_uint, norm_bytes, norm_array, content_back, fit_uint, fit_bytes, fit_array}
 use Rattle.hash_hmac.specs.declared.hash.Hash.{Hash}
@@ -38,12 +37,22 @@ pub credential_fits : (c : Credential) → IsInMemory c → IsKept c → IsFit (
 credential_fits c here kept =
     fit_array 15 (items.Uint 2 ∷ items.Bytes c.guid ∷ items.Bytes c.rv ∷ items.Text c.info ∷ items.Bytes c.secret ∷ item_of_hash c.key_hash ∷ items.Uint c.alg ∷ []) (lit< tt) (
       fit_uint 14 2 (lit< tt),
-      (fit_bytes 14 c.guid (omega (arith, here.guid)),
-      (fit_bytes 14 c.rv here.rv,
-      (text_fit 14 c.info here.info here.text,
-      (fit_bytes 14 c.secret (omega (arith, here.secret)),
-      (hash_inside c.key_hash kept.key_hash,
-      (fit_uint 14 c.alg (alg_small c.alg kept.alg), tt)))))),
+      (
+        fit_bytes 14 c.guid (omega (arith, here.guid)),
+        (
+          fit_bytes 14 c.rv here.rv,
+          (
+            text_fit 14 c.info here.info here.text,
+            (
+              fit_bytes 14 c.secret (omega (arith, here.secret)),
+              (
+                hash_inside c.key_hash kept.key_hash,
+                (fit_uint 14 c.alg (alg_small c.alg kept.alg), tt),
+              ),
+            ),
+          ),
+        ),
+      ),
     )
 
 -- ---- no map stands in it

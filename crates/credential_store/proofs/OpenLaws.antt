@@ -1,18 +1,18 @@
 -- What an opening reads and leaves.
-use Rattle.std.proofs.Common.{◌≡◌, ◌⊎◌, inl, inr, ℕ, ◌+◌, ◌-◌, List, [], ◌∷◌, ◌++◌, length, take, drop, min, Bool, true, false, IsTrue, if◌then◌else◌, Option, None, Some, Result, Ok, Err, OnOk, refl, ap, sym, ◌∙◌, subst, arith}
-use Rattle.std.proofs.lemmas.List.{take_all, take_at, length-take}
+use Rattle.std.proofs.Common.{◌≡◌, ◌⊎◌, inl, inr, ℕ, ◌+◌, List, [], ◌∷◌, ◌++◌, length, take, drop, Bool, true, false, IsTrue, if◌then◌else◌, Option, None, Some, Result, Ok, Err, refl, ap, sym, ◌∙◌, subst, arith}
+use Rattle.std.proofs.lemmas.List.{take_all, take_at}
 use Rattle.fdo_ports.specs.declared.failed.Failed.{Failed}
-use Rattle.disk_port.specs.Story.{Event, Synced, Story, readable, seen, with_events}
+use Rattle.disk_port.specs.Story.{Synced, Story, seen, with_events}
 use Rattle.disk_port.specs.Crash.{Leaves}
 use Rattle.disk_port.specs.Told.{Told, IfTold, rests, Copies, Syncs}
 use Rattle.disk_port.specs.Gated.{gated}
 use Rattle.disk_port.specs.Moments.{Moments, Steps}
-use Rattle.disk_port.specs.Slots.{Standing, body_of, base, stands, payload, next_change, change_after, changed, IsBeforeOrAfter, IsChanged, Changes}
+use Rattle.disk_port.specs.Slots.{body_of, base, stands, payload, next_change, change_after, changed, IsBeforeOrAfter, IsChanged, Changes}
 use Rattle.disk_port.specs.declared.next_change.NextChange.{NextChange}
-use Rattle.disk_port.proofs.Stepping.{only, moments_none, moments_one, moments_map, steps_map, steps_then}
+use Rattle.disk_port.proofs.Stepping.{only, moments_none, moments_one, steps_map, steps_then}
 use Rattle.voucher_chain.specs.declared.credential.Credential.{Credential}
 use Rattle.credential_store.specs.Body.{body_at, body_of_credential}
-use Rattle.credential_store.specs.Image.{credential_slots, placed, content_of, credential_at, told_content, told_next, change_events, commit_events, Commits, is_old, renewal, open_events, Opens, Renews, Holds, IsSound}
+use Rattle.credential_store.specs.Image.{credential_slots, placed, content_of, credential_at, change_events, commit_events, Commits, is_old, renewal, open_events, Opens, Renews, Holds}
 use Rattle.credential_store.specs.Store.{IsLoaded, IsReady, Loads, Refuses, IsForeign, IsOwn}
 use Rattle.credential_store.specs.Loading.{ready_events, MakesReady}
 use Rattle.credential_store.specs.declared.fault.OpenFault.{OpenFault}
@@ -88,10 +88,14 @@ module _ (credential : Credential) (next : NextChange) (body : List ℕ) (body_i
 -- nothing is written
 pub renews_nothing : (o : Option Story) (credential : Credential) → rests o ≡ true → Told (Renews {T = Ready} {E = OpenFault} credential (Err opening.NoMemory)) o o
 renews_nothing None credential rest = refl
-renews_nothing (Some s) credential rest = (s, refl, record {
-  moments = moments_none (λ c. credential_at c ≡ credential_at (seen s)) s (λ c left. ap credential_at (only s.image s.events c rest left));
-  done = tt;
-})
+renews_nothing (Some s) credential rest = (
+  s,
+  refl,
+  record {
+    moments = moments_none (λ c. credential_at c ≡ credential_at (seen s)) s (λ c left. ap credential_at (only s.image s.events c rest left));
+    done = tt;
+  },
+)
 
 -- ---- loading
 
@@ -188,16 +192,21 @@ nothing_made l image (inr none) = by l.old
   where
     nothing : commit_events l.credential image ≡ []
     nothing = ap (λ c. commit_events c image) none ∙ commit_none image
+
     by : (b : Bool) → (if b then commit_events l.credential image else []) ≡ []
     by true = nothing
     by false = refl
 
 pub makes_nothing : (o : Option Story) (l : Loaded) (r : Ready) → (l.old ≡ false) ⊎ (l.credential ≡ None) → rests o ≡ true → Told (MakesReady {T = Ready} {E = OpenFault} l (Ok r)) o o
 makes_nothing None l r plain rest = refl
-makes_nothing (Some s) l r plain rest = (s, refl, record {
-  moments = moments_none (λ c. credential_at c ≡ credential_at (seen s)) s (λ c left. ap credential_at (only s.image s.events c rest left));
-  done = ap (λ events. with_events events s) (sym (nothing_made l (seen s) plain));
-})
+makes_nothing (Some s) l r plain rest = (
+  s,
+  refl,
+  record {
+    moments = moments_none (λ c. credential_at c ≡ credential_at (seen s)) s (λ c left. ap credential_at (only s.image s.events c rest left));
+    done = ap (λ events. with_events events s) (sym (nothing_made l (seen s) plain));
+  },
+)
 
 -- a body of version 1 is written anew
 made_story : (l : Loaded) (credential : Credential) (r : Result Ready OpenFault) (s s' : Story) → l.credential ≡ Some credential → l.old ≡ true → Renews credential r s s' → MakesReady l r s s'

@@ -1,5 +1,5 @@
 -- An array of seven, part by part.
-use Rattle.std.proofs.Common.{◌≡◌, true, List, [], ◌∷◌, Option, Some, refl}
+use Rattle.std.proofs.Common.{◌≡◌, true, ◌∷◌, Some, refl}
 use Rattle.cbor_core.specs.declared.item.Item.{out-Item}
 use Rattle.cbor_core.specs.Shapes.{is_array, three_of}
 use Rattle.cbor_core.specs.Spots.{Spot, Standing, spot_item, spot_parts}

@@ -3,8 +3,7 @@
 -- header's key, and the kind of the HMAC. Version 1 has the number 1 and no kind, which is that of HMAC-SHA-256 (5), and at most
 -- 8,000 bytes.
 use Rattle.std.specs.Str.{is_utf8}
-use Rattle.std.specs.Prelude.{◌≡◌, ℕ, ◌<◌, ◌^◌, ◌==◌, ◌||◌, nat_le, List, [], ◌∷◌, length, Bool, true, false, if◌then◌else◌, is_some, Option, Some, None, Result, Ok, Err}
-use Rattle.cbor_core.specs.declared.fault.CborFault.{CborFault}
+use Rattle.std.specs.Prelude.{◌≡◌, ℕ, ◌<◌, ◌^◌, ◌==◌, ◌||◌, nat_le, List, [], ◌∷◌, length, Bool, true, false, if◌then◌else◌, is_some, Option, Some, None, Result}
 use Rattle.cbor_core.specs.declared.item.Item.{Item, out-Item}
 use Rattle.cbor_core.specs.declared.item.Item.TheOpen.{Item-F}
 use Rattle.cbor_core.specs.declared.item.Item.TheVariants as items
@@ -13,7 +12,6 @@ use Rattle.cbor_core.specs.Reading.{first_item}
 use Rattle.cbor_core.specs.Shapes.{array_layer, is_text, of_length, six_spots}
 use Rattle.cbor_core.specs.Spots.{Spot, spot_item, bytes_in, text_in}
 use Rattle.cbor_core.specs.Whole.{whole, said_of}
-use Rattle.hash_hmac.specs.declared.hash.Hash.{Hash}
 use Rattle.hash_hmac.specs.Value.{IsConsistent}
 use Rattle.key_codec.specs.Fault.{ok_of}
 use Rattle.key_codec.specs.Hash.{hash_in, item_of_hash}

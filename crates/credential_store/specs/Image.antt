@@ -1,5 +1,5 @@
 -- What the image of a credential file stands for.
-use Rattle.std.specs.Prelude.{◌≡◌, ◌⊎◌, ℕ, ◌+◌, ◌==◌, List, [], ◌∷◌, ◌++◌, length, Bool, true, false, if◌then◌else◌, Option, Some, None, Result, Ok, Err}
+use Rattle.std.specs.Prelude.{◌≡◌, ◌⊎◌, ℕ, ◌+◌, ◌==◌, List, [], ◌∷◌, ◌++◌, Bool, true, false, if◌then◌else◌, Option, Some, None, Result, Ok, Err}
 use Rattle.disk_port.specs.Slots.{Standing, base, stands, next_change, payload}
 use Rattle.disk_port.specs.Story.{Event, Synced, Story, seen}
 use Rattle.disk_port.specs.Crash.{Leaves}

@@ -1,8 +1,7 @@
 -- What is made ready of a file that was read.
-use Rattle.std.specs.Prelude.{◌≡◌, ℕ, List, [], Bool, if◌then◌else◌, Option, Some, None, Result}
+use Rattle.std.specs.Prelude.{◌≡◌, ℕ, List, [], if◌then◌else◌, Result}
 use Rattle.disk_port.specs.Story.{Event, Story, seen}
 use Rattle.disk_port.specs.Moments.{Steps}
-use Rattle.voucher_chain.specs.declared.credential.Credential.{Credential}
 use Rattle.credential_store.specs.Image.{credential_at, commit_events}
 use Rattle.credential_store.specs.declared.loading.Loaded.{Loaded}
 

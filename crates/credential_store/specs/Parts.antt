@@ -1,5 +1,5 @@
 -- Arrays of seven.
-use Rattle.std.specs.Prelude.{List, [], ◌∷◌, Option, Some, None, option_map, if◌then◌else◌}
+use Rattle.std.specs.Prelude.{List, ◌∷◌, Option, None, option_map, if◌then◌else◌}
 use Rattle.cbor_core.specs.declared.item.Item.{out-Item}
 use Rattle.cbor_core.specs.Shapes.{is_array, three_of}
 use Rattle.cbor_core.specs.Spots.{Spot, spot_item, spot_parts}

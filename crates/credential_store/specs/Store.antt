@@ -1,5 +1,5 @@
 -- A store as its callers see it, and its answers.
-use Rattle.std.specs.Prelude.{◌≡◌, ◌⊎◌, ◌<◌, ℕ, List, [], ◌∷◌, length, Bool, true, Option, Some, None, Result, Ok, Err}
+use Rattle.std.specs.Prelude.{◌≡◌, ◌⊎◌, ◌<◌, ℕ, List, [], ◌∷◌, length, Bool, true, Option, Result, Ok, Err}
 use Rattle.disk_port.specs.Story.{Story, Synced, seen, with_events}
 use Rattle.disk_port.specs.Told.{IfTold, rests}
 use Rattle.disk_port.specs.Slots.{stands, next_change}

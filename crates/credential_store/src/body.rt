@@ -13,7 +13,9 @@ ghost use Rattle.credential_store.specs.Body.{is_number, is_rv, rv_bytes_in, sec
 
 use crate::fault::ImageFault;
 use crate::parts::seven;
-use cbor_core::{Blob, CborFault, Item, Items, NoMemory, Part, Text, exactly, read_det, read_wire, write_det};
+use cbor_core::{
+    Blob, CborFault, Item, Items, NoMemory, Part, Text, exactly, read_det, read_wire, write_det,
+};
 use hash_hmac::Hash;
 use key_codec::{find_hash_fault, hash_item, read_hash};
 use std::alloc::Global;
@@ -126,7 +128,14 @@ fn read_parts(
     let guid = read_guid(guid);
     let rv = read_rv_bytes(alloc, rv)?;
     let info = read_info(info)?;
-    match (guid, rv, info, read_secret(secret), read_key_hash(hash), alg) {
+    match (
+        guid,
+        rv,
+        info,
+        read_secret(secret),
+        read_key_hash(hash),
+        alg,
+    ) {
         (Some(guid), Some(rv), Some(info), Some(secret), Some(key_hash), Some(alg)) => {
             Ok(Some(Credential {
                 guid,

@@ -47,11 +47,7 @@ pub(crate) fn prepare<D: Disk>(alloc: Global, disk: &mut D) -> Result<Ready, Ope
 
 /// Makes what was read ready: a body of version 1 is written anew.
 #[tactic(auto, using(crate::proofs::OpenLaws::makes_nothing, crate::proofs::OpenLaws::ready_loaded))]
-fn make_ready<D: Disk>(
-    alloc: Global,
-    disk: &mut D,
-    loaded: Loaded,
-) -> Result<Ready, OpenFault>
+fn make_ready<D: Disk>(alloc: Global, disk: &mut D, loaded: Loaded) -> Result<Ready, OpenFault>
     requires rests { rests (D.told disk.old) ≡ true }
     requires loaded { IfTold (λ s. IsLoaded loaded.credential loaded.next loaded.old (seen s)) (D.told disk.old) }
     requires kept { IfSome loaded.credential IsKept }

@@ -1,8 +1,10 @@
-ghost use Rattle.std.specs.Prelude.{◌≡◌, ◌≤◌, true, None, Some, IfOk, IfErr, IfSome, IsSome, MatchResult, OnOk, OnErr, length, option_copied};
+ghost use Rattle.std.specs.Prelude.{◌≡◌, ◌≤◌, true, None, Some, IfOk, IfErr, IfSome, IsSome, IsTrue, MatchResult, OnOk, OnErr, length, option_copied};
 ghost use Rattle.fdo_ports.specs.Count.{Counts};
-ghost use Rattle.disk_port.specs.Told.{Told};
+ghost use Rattle.disk_port.specs.Slots.{next_change};
+ghost use Rattle.disk_port.specs.Story.{seen};
+ghost use Rattle.disk_port.specs.Told.{IfTold, Told, rests};
 ghost use Rattle.credential_store.specs.Body.{body_of_credential, IsKept};
-ghost use Rattle.credential_store.specs.Image.{Commits, Opens, Holds};
+ghost use Rattle.credential_store.specs.Image.{Commits, Holds, Opens, credential_slots};
 ghost use Rattle.credential_store.specs.Store.{disk_after, disk_opened, Blames, IsTooBig, Refuses};
 
 use crate::fault::{OpenFault, ReserveFault};
@@ -154,12 +156,6 @@ impl<D: Stops> CredentialStore<D> {
         self.disk.stop_at(call, pick);
     }
 }
-
-ghost use Rattle.std.specs.Prelude.{IsTrue};
-ghost use Rattle.disk_port.specs.Story.{seen};
-ghost use Rattle.disk_port.specs.Slots.{next_change};
-ghost use Rattle.disk_port.specs.Told.{IfTold, rests};
-ghost use Rattle.credential_store.specs.Image.{credential_slots};
 
 /// Writes a reserved credential.
 fn commit_reserved<D: Disk>(

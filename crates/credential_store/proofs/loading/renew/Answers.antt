@@ -1,4 +1,4 @@
-use Rattle.std.proofs.Common.{ap, sym, ◌∙◌}
+use Rattle.std.proofs.Common.{ap, ◌∙◌}
 use Rattle.disk_port.specs.Slots.{body_of}
 use Rattle.credential_store.proofs.OpenLaws.{renewed_ok, renewed_err, ready_after}
 use Rattle.credential_store.proofs.loading.renew.Goals as goal
