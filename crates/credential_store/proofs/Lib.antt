@@ -1,0 +1,4 @@
+pub mod BodyBack
+pub mod OpenLaws
+pub mod PartLaws
+pub mod StoreLaws

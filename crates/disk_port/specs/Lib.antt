@@ -1,0 +1,11 @@
+pub mod Story
+pub mod Crash
+pub mod Told
+pub mod Moments
+pub mod Gated
+pub mod History
+pub mod Picked
+pub mod Turn
+pub mod MemoryDisk
+pub mod Slots
+pub mod Found
