@@ -1,0 +1,13 @@
+//! ServiceInfo of FIDO Device Onboard 1.1 (section 3.8): the pairs that a device and its owner hand to each other's
+//! modules, cut into messages, checked as they come, and the module devmod.
+#![tactic(auto)]
+
+pub mod devmod_key;
+pub mod info_fault;
+pub mod info_pairs;
+pub mod pair;
+
+pub use devmod_key::DevmodKey;
+pub use info_fault::InfoFault;
+pub use info_pairs::InfoPairs;
+pub use pair::Pair;
