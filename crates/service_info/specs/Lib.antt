@@ -1,0 +1,4 @@
+pub mod Fault
+pub mod Packed
+pub mod Pairs
+pub mod Size

@@ -5,9 +5,13 @@
 pub mod devmod_key;
 pub mod info_fault;
 pub mod info_pairs;
+pub mod packer;
 pub mod pair;
+pub mod size;
 
 pub use devmod_key::DevmodKey;
 pub use info_fault::InfoFault;
 pub use info_pairs::InfoPairs;
+pub use packer::Packer;
 pub use pair::Pair;
+pub use size::{LEAST_SIZE, MOST_SIZE, USUAL_SIZE, size_of};
