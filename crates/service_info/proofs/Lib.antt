@@ -1,2 +1,4 @@
-pub mod PackLaws
+pub mod AllLaws
 pub mod CutLaws
+pub mod PackLaws
+pub mod PlaceLaws

@@ -16,3 +16,8 @@ Fails told f = told ≡ Err f
 abbrev pub Answers : {A : Type 0} → Result A InfoFault → Result A InfoFault → Type 0
 Answers told (Ok value) = told ≡ Ok value
 Answers told (Err f) = Fails told f
+
+-- the same, of what is answered seen by `view`
+abbrev pub AnswersAs : {X Y : Type 0} → (X → Y) → Result Y InfoFault → Result X InfoFault → Type 0
+AnswersAs view told (Ok value) = told ≡ Ok (view value)
+AnswersAs view told (Err f) = Fails told f
