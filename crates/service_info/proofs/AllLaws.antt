@@ -1,7 +1,5 @@
 -- The values of all, as far as they are read.
-use Rattle.std.proofs.Common.{◌≡◌, List, [], ◌∷◌, ◌++◌, Bool, true, false, Option, Some, None, refl, sym, ap, ◌∙◌, append_assoc}
-use Rattle.service_info.specs.declared.named.Named.{Named}
-use Rattle.service_info.specs.declared.pair.Pair.{Pair}
+use Rattle.std.proofs.Common.{◌≡◌, List, [], ◌∷◌, ◌++◌, Option, Some, None, refl, ap, append_assoc}
 use Rattle.service_info.specs.Devmod.{all_in}
 
 -- those read before, and the others

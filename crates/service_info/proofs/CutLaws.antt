@@ -1,15 +1,14 @@
 -- The list that is cut from the front of pairs.
-use Rattle.std.proofs.Common.{◌≡◌, ◌≢◌, ℕ, suc, ◌+◌, ◌-◌, ◌<◌, ◌≤◌, List, [], ◌∷◌, ◌++◌, length, take, drop, reverse, Bool, true, false, Option, Some, None, zero, inl, inr, refl, sym, ap, subst, ◌∙◌, arith}
-use Rattle.std.proofs.lemmas.Bool.{lt-ltb, le-ltb, ltb-true, ltb-false}
-use Rattle.std.proofs.lemmas.List.{length-append, length-take, length-drop, length-reverse, reverse-append, take-append-drop, take_all, drop_all}
+use Rattle.std.proofs.Common.{◌≡◌, ◌≢◌, ℕ, suc, ◌+◌, ◌-◌, ◌<◌, ◌≤◌, List, [], ◌∷◌, ◌++◌, length, take, drop, reverse, Bool, true, false, Some, None, zero, inl, inr, refl, sym, ap, subst, ◌∙◌, arith}
+use Rattle.std.proofs.lemmas.Bool.{lt-ltb, ltb-true, ltb-false}
+use Rattle.std.proofs.lemmas.List.{length-take, length-drop, length-reverse, reverse-append, take-append-drop, take_all, drop_all}
 use Rattle.std.proofs.lemmas.List.Folds.{list_any-append}
-use Rattle.std.proofs.lemmas.List.Sums.{sum_by-take-le, sum_by-cons, prefix_len-le-length}
+use Rattle.std.proofs.lemmas.List.Sums.{sum_by-cons, prefix_len-le-length}
 use Rattle.std.proofs.Math.Seq.{take-append_seam, drop-append_seam}
 use Rattle.std.specs.Prelude.{nat_lt, position, not, ◌||◌, ◌⊎◌, cond}
 use Rattle.std.specs.List.{sum_by, list_any, prefix_len, position_or_len}
-use Rattle.cbor_core.specs.Head.{head}
 use Rattle.service_info.specs.declared.pair.Pair.{Pair}
-use Rattle.service_info.specs.Packed.{Parcel, IsCut, IsLongestFront, Packed, PackedFrom, BeginsPacked, is_too_wide, too_wide}
+use Rattle.service_info.specs.Packed.{IsCut, Packed, BeginsPacked, is_too_wide}
 use Rattle.service_info.specs.Pairs.{pair_length, length_of, Fits}
 use Rattle.service_info.proofs.PackLaws.{length_of_front, head_grows}
 

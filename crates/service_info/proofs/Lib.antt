@@ -2,3 +2,4 @@ pub mod AllLaws
 pub mod CutLaws
 pub mod PackLaws
 pub mod PlaceLaws
+pub mod ShippedLaws

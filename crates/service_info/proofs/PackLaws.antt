@@ -1,19 +1,19 @@
 -- How many bytes lists of pairs take.
-use Rattle.std.proofs.Common.{◌≡◌, ◌≢◌, ℕ, suc, ◌+◌, ◌-◌, ◌<◌, ◌≤◌, List, [], ◌∷◌, ◌++◌, map, length, take, reverse, get_or, true, false, refl, sym, ap, ◌∙◌, arith}
+use Rattle.std.proofs.Common.{◌≡◌, ℕ, ◌+◌, ◌-◌, ◌<◌, ◌≤◌, List, [], ◌∷◌, ◌++◌, map, length, take, reverse, get_or, true, false, refl, sym, ap, ◌∙◌, arith}
 use Rattle.std.proofs.lemmas.Bool.{lt-ltb, le-ltb}
 use Rattle.std.proofs.lemmas.List.{length-append, length-take, length-reverse, get_or-reverse}
-use Rattle.std.proofs.lemmas.List.Sums.{sum_by_more, sum_by-cons, sum_by-take-le}
+use Rattle.std.proofs.lemmas.List.Sums.{sum_by_more, sum_by-cons}
 use Rattle.std.specs.Prelude.{nat_lt, ◌^◌, ◌*◌, if◌then◌else◌, Bool}
 use Rattle.std.specs.List.{concat, sum_by}
 use Rattle.std.specs.Int.{w8, w16, w32, w64, to_be_bytes}
-use Rattle.cbor_core.specs.declared.item.Item.{Item, roll-Item}
+use Rattle.cbor_core.specs.declared.item.Item.{Item}
 use Rattle.cbor_core.specs.declared.item.Item.TheVariants as items
 use Rattle.cbor_core.specs.Deterministic.{det}
 use Rattle.cbor_core.specs.Head.{head}
 use Rattle.cbor_core.proofs.Dets.{det_array, det_bytes, det_text, length_map}
 use Rattle.service_info.specs.declared.pair.Pair.{Pair}
 use Rattle.service_info.specs.Packed.{is_too_wide}
-use Rattle.service_info.specs.Pairs.{item_of_pair, item_of_pairs, pair_length, length_of, Fits}
+use Rattle.service_info.specs.Pairs.{item_of_pair, pair_length, length_of, Fits}
 
 pub det_of_text : (t : List ℕ) → det (items.Text t) ≡ head 3 (length t) ++ t
 det_of_text t = ap det (sym (items.rolls-Text t)) ∙ det_text t

@@ -6,5 +6,6 @@ pub mod ListModule
 pub mod Module
 pub mod Packed
 pub mod Pairs
+pub mod Shipped
 pub mod Size
 pub mod Turn

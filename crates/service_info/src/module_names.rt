@@ -2,7 +2,7 @@ ghost use Rattle.std.specs.Prelude.{◌≡◌, ◌≤◌, ◌++◌, ◌+◌, IfO
 ghost use Rattle.std.specs.List.{flat_map, range_with_len};
 ghost use Rattle.cbor_core.specs.declared.item.Item.{out-Item};
 ghost use Rattle.cbor_core.specs.Shapes.{array_layer};
-ghost use Rattle.service_info.specs.Devmod.{all_in, listed as items_listed, lists_in, lists_needed, misplaced, named_in, named_layer, names_in_place, places_of, text_of};
+ghost use Rattle.service_info.specs.Devmod.{all_in, counted, listed as items_listed, lists_in, lists_needed, misplaced, named_in, named_layer, names_in_place, places_of, text_of};
 ghost use Rattle.service_info.specs.Fault.{Answers, AnswersAs};
 
 use crate::devmod::{has_key, read_item};
@@ -68,8 +68,6 @@ fn read_named_item(alloc: Global, item: &Item) -> Result<Option<Named>, NoMemory
         _ => Ok(None),
     }
 }
-
-ghost use Rattle.service_info.specs.Devmod.{counted};
 
 fn read_counted(
     alloc: Global,

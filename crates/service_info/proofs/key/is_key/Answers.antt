@@ -1,4 +1,4 @@
-use Rattle.std.proofs.Common.{◌≡◌, ℕ, List, ◌+◌, Option, Some, take, drop, ◌∙◌, sym, ap, position, arith}
+use Rattle.std.proofs.Common.{◌≡◌, ℕ, List, ◌+◌, Option, Some, take, drop, ◌∙◌, sym, ap, position}
 use Rattle.std.proofs.lemmas.List.{drop-drop}
 use Rattle.std.specs.Prelude.{◌&&◌}
 use Rattle.service_info.specs.Key.{is_colon, is_key, is_message_byte, is_module_byte, is_name, parted}
@@ -16,4 +16,4 @@ pub returns-in-Some : goal.returns-in-Some
 returns-in-Some c =
     c.are_names.ensures
     ∙ are_parts c.args.key.now c.as_bytes-key.result.now c.split_at.result.0.now c.split_at.result.1.now c.split_at-in-Some.result.1.now c.in-Some.at c.find_colon.result
-        c.as_bytes-key.ensures.value c.find_colon.ensures c.in-Some.is c.split_at.ensures.front c.split_at.ensures.back c.split_at-in-Some.ensures.back
+    c.as_bytes-key.ensures.value c.find_colon.ensures c.in-Some.is c.split_at.ensures.front c.split_at.ensures.back c.split_at-in-Some.ensures.back

@@ -1,4 +1,4 @@
-use Rattle.std.proofs.Common.{reverse, length, ◌+◌, ◌≤◌, ◌≢◌, arith, ◌<◌}
+use Rattle.std.proofs.Common.{reverse, arith}
 use Rattle.std.proofs.lemmas.List.{length-reverse}
 use Rattle.service_info.proofs.PackLaws.{front_fits, front_passes, more_pairs}
 use Rattle.service_info.proofs.packer.count_fitting.Goals as goal
