@@ -3,3 +3,4 @@ pub mod CutLaws
 pub mod PackLaws
 pub mod PlaceLaws
 pub mod ShippedLaws
+pub mod PackedLaws

@@ -2,7 +2,6 @@ ghost use Rattle.std.specs.Prelude.{◌≡◌, IfOk, find, option_and_then, opti
 ghost use Rattle.std.specs.List.{flat_map};
 ghost use Rattle.std.specs.Option.{option_copied};
 ghost use Rattle.cbor_core.specs.declared.item.Item.{out-Item};
-ghost use Rattle.cbor_core.specs.Whole.{whole};
 ghost use Rattle.service_info.specs.Devmod.{devmod_of, has_key as is_of_key, lists_needed, needed, true_of, text_of, unsigned_of, value_at};
 ghost use Rattle.service_info.specs.DevmodKey.{key_text};
 ghost use Rattle.service_info.specs.Fault.{Answers};
@@ -12,7 +11,8 @@ use crate::info_fault::InfoFault;
 use crate::module_names::{placed_names, read_lists};
 use crate::pair::Pair;
 use crate::texts::Texts;
-use cbor_core::{Blob, CborFault, Item, NoMemory, Text, read_wire};
+use crate::value::read_item;
+use cbor_core::{Blob, Item, NoMemory, Text};
 use std::alloc::Global;
 
 /// What a device says of itself through the module devmod (FIDO Device Onboard 1.1, section 3.8.3.1).
@@ -105,21 +105,4 @@ pub(crate) fn has_key(pair: &Pair, key: DevmodKey) -> bool
     ensures { result ≡ is_of_key (key_text key) pair.now }
 {
     pair.key.as_list() == key.text()
-}
-
-/// The item that bytes are, all of them.
-pub(crate) fn read_item(alloc: Global, bytes: &[u8]) -> Result<Option<Item>, NoMemory>
-    ensures { IfOk result (λ item. item ≡ whole bytes.now) }
-{
-    match read_wire(alloc, bytes) {
-        Ok((item, read)) => {
-            if read == bytes.len() {
-                Ok(Some(item))
-            } else {
-                Ok(None)
-            }
-        }
-        Err(CborFault::NoMemory) => Err(NoMemory),
-        Err(_) => Ok(None),
-    }
 }

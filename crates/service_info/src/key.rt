@@ -1,9 +1,8 @@
 ghost use Rattle.std.specs.Prelude.{◌≡◌, ◌&&◌, length, position};
 ghost use Rattle.std.specs.List.{list_all};
-ghost use Rattle.service_info.specs.Key.{is_colon, is_key as is_a_key, is_message_byte, is_module_byte, is_name, is_within};
+ghost use Rattle.service_info.specs.Key.{is_colon, is_key as is_a_key, is_message_byte, is_module_byte, is_name as is_a_name, is_within};
 
-/// Whether a key is a module's name, a colon and a message's name. A name has 1 to 64 bytes of `a` to `z`, `0` to `9`,
-/// `.`, `-` and `_`; a module's may have `A` to `Z` too.
+/// Whether a key is a module's name, a colon and a message's name, where a message's has no capitals.
 pub fn is_key(key: &str) -> bool
     ensures { result ≡ is_a_key key.now }
 {
@@ -24,12 +23,19 @@ fn find_colon(key: &[u8]) -> Option<usize>
 }
 
 fn are_names(module_name: &[u8], message_name: &[u8]) -> bool
-    ensures { result ≡ (is_name is_module_byte module_name.now && is_name is_message_byte message_name.now) }
+    ensures { result ≡ (is_a_name is_module_byte module_name.now && is_a_name is_message_byte message_name.now) }
 {
     has_a_names_length(module_name)
         && has_module_bytes(module_name)
         && has_a_names_length(message_name)
         && has_message_bytes(message_name)
+}
+
+/// Whether a text can be the name of a module: 1 to 64 bytes of `a` to `z`, `A` to `Z`, `0` to `9`, `.`, `-` and `_`.
+pub fn is_name(name: &str) -> bool
+    ensures { result ≡ is_a_name is_module_byte name.now }
+{
+    has_a_names_length(name.as_bytes()) && has_module_bytes(name.as_bytes())
 }
 
 fn has_a_names_length(name: &[u8]) -> bool

@@ -5,12 +5,13 @@ ghost use Rattle.cbor_core.specs.Shapes.{array_layer};
 ghost use Rattle.service_info.specs.Devmod.{all_in, counted, listed as items_listed, lists_in, lists_needed, misplaced, named_in, named_layer, names_in_place, places_of, text_of};
 ghost use Rattle.service_info.specs.Fault.{Answers, AnswersAs};
 
-use crate::devmod::{has_key, read_item};
+use crate::devmod::has_key;
 use crate::devmod_key::DevmodKey;
 use crate::info_fault::InfoFault;
 use crate::named::Named;
 use crate::pair::Pair;
 use crate::texts::Texts;
+use crate::value::read_item;
 use cbor_core::{Item, NoMemory, Text};
 use std::alloc::Global;
 
