@@ -30,16 +30,16 @@ use Rattle.cbor_core.specs.Spots.{text_in}
 
 -- ---- items are read back
 
-read_back : (x : Item) → IsFit x → norm x ≡ x → whole (det x) ≡ Some x
+pub read_back : (x : Item) → IsFit x → norm x ≡ x → whole (det x) ≡ Some x
 read_back x fit same = spelled_whole (det x) (norm x) (fit_said x fit) ∙ ap Some same
 
-norm_text : (t : List ℕ) → norm (items.Text t) ≡ items.Text t
+pub norm_text : (t : List ℕ) → norm (items.Text t) ≡ items.Text t
 norm_text t = ap norm (sym (items.rolls-Text t)) ∙ fold-roll-Item Item norm_step (Item-F.Text t)
 
 norm_simple : (n : ℕ) → norm (items.Simple n) ≡ items.Simple n
 norm_simple n = ap norm (sym (items.rolls-Simple n)) ∙ fold-roll-Item Item norm_step (Item-F.Simple n)
 
-fit_text : (n : ℕ) (t : List ℕ) → IsText t → IsFitWithin (suc n) (items.Text t)
+pub fit_text : (n : ℕ) (t : List ℕ) → IsText t → IsFitWithin (suc n) (items.Text t)
 unfolding IsFitWithin
 fit_text n t h = subst (IsFitLayer (IsFitWithin n)) (sym (items.outs-Text t)) h
 
@@ -74,13 +74,13 @@ names_back ts short h =
 
 -- ---- what they say
 
-text_said : (t : List ℕ) → text_of (items.Text t) ≡ Some t
+pub text_said : (t : List ℕ) → text_of (items.Text t) ≡ Some t
 text_said t = ap text_in (items.outs-Text t)
 
-unsigned_said : (n : ℕ) → unsigned_of (items.Uint n) ≡ Some n
+pub unsigned_said : (n : ℕ) → unsigned_of (items.Uint n) ≡ Some n
 unsigned_said n = ap unsigned_layer (items.outs-Uint n)
 
-true_said : true_of (items.Simple 21) ≡ Some tt
+pub true_said : true_of (items.Simple 21) ≡ Some tt
 true_said = ap true_layer (items.outs-Simple 21)
 
 texts_said : (ts : List (List ℕ)) → all_in text_of (map items.Text ts) ≡ Some ts

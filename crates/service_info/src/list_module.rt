@@ -1,4 +1,5 @@
-ghost use Rattle.std.specs.Prelude.{◌≡◌, ◌++◌, ◌∷◌, [], OnSome, OnErr};
+ghost use Rattle.std.specs.Prelude.{◌≡◌, ◌++◌, ◌∷◌, [], List};
+ghost use Rattle.service_info.specs.declared.pair.Pair.{Pair};
 
 use crate::module::Module;
 use crate::packer::reversed;
@@ -26,6 +27,15 @@ impl ListModule {
             reversed: reversed(pairs),
             taken,
         }
+    }
+
+    /// Takes the last pair that was taken back, if there is one.
+    pub fn take_back(&mut self)
+        ensures taken { (before : List Pair) (pair : Pair) → pairs_taken self.old ≡ before ++ pair ∷ [] → pairs_taken self.new ≡ before }
+        ensures none { pairs_taken self.old ≡ [] → pairs_taken self.new ≡ [] }
+        ensures left { pairs_left self.new ≡ pairs_left self.old }
+    {
+        let _last = self.taken.pop();
     }
 
     /// The pairs taken, in order.
