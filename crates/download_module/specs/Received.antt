@@ -1,8 +1,8 @@
 -- What the pairs of the module say. They come in this order: that it is active, the file's name, its length, its
 -- SHA-384 hash, and its bytes in any number of pieces.
-use Rattle.std.specs.Prelude.{ℕ, ◌+◌, ◌-◌, ◌^◌, List, [], ◌∷◌, ◌++◌, length, min, filter, nat_lt, nat_eq, codes, Bool, ◌==◌, if◌then◌else◌, Option, Some, None, option_and_then, Result, Ok, Err, ok_or}
+use Rattle.std.specs.Prelude.{◌≡◌, ◌≤◌, true, ℕ, ◌+◌, ◌-◌, ◌^◌, List, [], ◌∷◌, ◌++◌, length, min, filter, nat_lt, nat_eq, codes, Bool, ◌==◌, if◌then◌else◌, Option, Some, None, option_and_then, Result, Ok, Err, ok_or}
 use Rattle.std.specs.Cmp.Lexicographic.{pointwise}
-use Rattle.std.specs.List.{starts_with}
+use Rattle.std.specs.List.{flat_map, starts_with}
 use Rattle.sha2.specs.Sha512.{sha384}
 use Rattle.cbor_core.specs.declared.item.Item.{Item, out-Item}
 use Rattle.cbor_core.specs.Shapes.{of_length}
@@ -112,3 +112,32 @@ name_received limit (pair ∷ pairs) = said_at 1 name_key name_of pair >>= λ na
 abbrev pub received : ℕ → List Pair → Result (Option File) DownFault
 received limit [] = Ok None
 received limit (pair ∷ pairs) = said_at 0 active_key true_of pair >>= λ active. name_received limit pairs
+
+-- ---- a whole transfer
+
+-- a pair has a key and says a value
+abbrev pub Says : {A : Type 0} → List ℕ → (Item → Option A) → Pair → A → Type 0
+Says key said pair value = (has_key key pair ≡ true) × (option_and_then said (whole pair.value) ≡ Some value)
+
+abbrev pub AreData : List Pair → List (List ℕ) → Type 0
+AreData [] pieces = pieces ≡ []
+AreData (pair ∷ pairs) [] = ⊥
+AreData (pair ∷ pairs) (piece ∷ pieces) = Says data_key bytes_of pair piece × AreData pairs pieces
+
+-- the module's pairs are those of a transfer of this file, of at most `limit` bytes: each is of its form, the pieces are
+-- its bytes, and their number and their hash are those announced
+pub record IsTransfer (limit : ℕ) (pairs : List Pair) (file : File) : Type 0 where
+  pub active : Pair
+  pub name : Pair
+  pub size : Pair
+  pub hash : Pair
+  pub data_pairs : List Pair
+  pub pieces : List (List ℕ)
+  pub order : pairs ≡ active ∷ name ∷ size ∷ hash ∷ data_pairs
+  pub is_active : Says active_key true_of active tt
+  pub says_name : Says name_key name_of name file.name
+  pub says_size : Says length_key unsigned_of size (length file.bytes)
+  pub says_hash : Says hash_key hash_of hash (sha384 file.bytes)
+  pub says_pieces : AreData data_pairs pieces
+  pub whole_bytes : flat_map (λ piece. piece) pieces ≡ file.bytes
+  pub within_limit : length file.bytes ≤ limit

@@ -18,7 +18,7 @@ pub struct Receiver {
 
 impl Receiver {
     ghost use Rattle.download_module.specs.Receiver.{limit_of, Took};
-    ghost use Rattle.download_module.specs.Received.{of_module, received};
+    ghost use Rattle.download_module.specs.Received.{IsTransfer, of_module, received};
 
     /// One that takes files of at most `limit` bytes.
     pub fn new(limit: u64) -> Receiver
@@ -32,9 +32,11 @@ impl Receiver {
     }
 
     /// The file that came whole, None where no pair of the module came, or why it is refused.
-    #[tactic(auto, using(crate::proofs::StageLaws::took_all))]
+    #[tactic(auto, using(crate::proofs::StageLaws::took_all, crate::proofs::TransferLaws::only_whole))]
     pub fn finish(self) -> Result<Option<File>, DownFault>
-        ensures { (pairs : List Pair) → Took self pairs → result ≡ received (limit_of self) (of_module pairs) }
+        ensures exact { (pairs : List Pair) → Took self pairs → result ≡ received (limit_of self) (of_module pairs) }
+        // A file is one that was sent whole.
+        ensures only { (pairs : List Pair) → Took self pairs → IfOk result (λ file. IfSome file (IsTransfer (limit_of self) (of_module pairs))) }
     {
         self.stage.finish()
     }
