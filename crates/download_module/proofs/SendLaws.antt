@@ -1,29 +1,24 @@
 -- A file that is sent is received.
-use Rattle.std.proofs.Common.{◌≡◌, ℕ, zero, suc, ◌+◌, ◌-◌, ◌*◌, ◌/◌, ◌%◌, ◌<◌, ◌≤◌, ◌^◌, min, List, [], ◌∷◌, ◌++◌, map, length, take, drop, Bool, true, false, Option, Some, None, Ok, Result, refl, sym, ap, subst, ◌∙◌, arith, append_assoc}
+use Rattle.std.proofs.Common.{◌≡◌, ℕ, zero, suc, ◌+◌, ◌-◌, ◌*◌, ◌/◌, ◌<◌, ◌≤◌, ◌^◌, min, List, [], ◌∷◌, ◌++◌, map, length, take, drop, true, Some, Ok, refl, sym, ap, ◌∙◌, arith, append_assoc}
 use Rattle.std.proofs.lemmas.Bool.{le-ltb, eq-eqb}
-use Rattle.std.proofs.lemmas.List.{append-nil, length-append, length-take, length-drop, take-append-drop, take_min, drop_min}
-use Rattle.std.specs.Prelude.{nat_lt, ◌==◌, option_and_then}
+use Rattle.std.proofs.lemmas.List.{append-nil, length-append, length-drop, take-append-drop, take_min, drop_min}
+use Rattle.std.specs.Prelude.{◌==◌}
 use Rattle.std.specs.Cmp.Lexicographic.{pointwise}
 use Rattle.std.specs.List.{flat_map}
 use Rattle.std.specs.Str.{is_utf8}
 use Rattle.sha2.specs.Sha512.{sha384}
 use Rattle.sha2.proofs.Facts512.{length-sha384}
-use Rattle.cbor_core.specs.declared.item.Item.{Item, out-Item}
 use Rattle.cbor_core.specs.declared.item.Item.TheVariants as items
 use Rattle.cbor_core.specs.Deterministic.{det}
 use Rattle.cbor_core.specs.Head.{head}
-use Rattle.cbor_core.specs.Shapes.{of_length}
-use Rattle.cbor_core.specs.Spots.{bytes_in}
 use Rattle.cbor_core.specs.Whole.{whole}
 use Rattle.cbor_core.proofs.NormLaws.{fit_bytes, norm_bytes, content_back}
 use Rattle.service_info.specs.declared.pair.Pair.{Pair}
-use Rattle.service_info.specs.Devmod.{text_of, true_of, unsigned_of}
+use Rattle.service_info.specs.Devmod.{true_of}
 use Rattle.service_info.specs.Key.{is_module_byte, is_name}
 use Rattle.service_info.proofs.PackLaws.{det_of_text, det_of_bytes}
 use Rattle.service_info.proofs.ShippedLaws.{read_back, true_back, text_back, number_back, true_said, text_said, unsigned_said}
-use Rattle.download_module.specs.declared.down_fault.DownFault.{DownFault}
-use Rattle.download_module.specs.declared.file.File.{File}
-use Rattle.download_module.specs.Received.{active_key, bytes_of, data_key, file_of, hash_key, hash_of, hash_received, length_key, name_key, name_of, name_received, named, next_place, of_module, pieces_received, received, said_at, size_received, size_said, with_piece, within}
+use Rattle.download_module.specs.Received.{active_key, bytes_of, data_key, file_of, hash_key, hash_of, length_key, name_key, name_of, next_place, of_module, pieces_received, received, said_at, size_said}
 use Rattle.download_module.specs.Sent.{data_pair, longest_file, longest_piece, pair_of, pairs_of, pieces, pieces_of}
 
 pub text_is : (t : List ℕ) → det (items.Text t) ≡ head 3 (length t) ++ t

@@ -1,15 +1,11 @@
 -- What a receiver took, a pair more.
-use Rattle.std.proofs.Common.{◌≡◌, ℕ, List, [], ◌∷◌, ◌++◌, Bool, true, false, Option, Result, refl, sym, ap, subst, ◌∙◌, append_assoc}
+use Rattle.std.proofs.Common.{◌≡◌, List, [], ◌∷◌, ◌++◌, true, false, refl, sym, ap, subst, ◌∙◌, append_assoc}
 use Rattle.std.proofs.lemmas.List.{append-nil}
-use Rattle.std.specs.Prelude.{filter, cond}
 use Rattle.service_info.specs.declared.pair.Pair.{Pair}
-use Rattle.download_module.specs.declared.down_fault.DownFault.{DownFault}
-use Rattle.download_module.specs.declared.file.File.{File}
 use Rattle.download_module.specs.declared.receiver.Receiver.{Receiver}
-use Rattle.download_module.specs.declared.stage.Stage.{Stage}
 use Rattle.download_module.specs.Received.{is_of_module, of_module, received}
 use Rattle.download_module.specs.Receiver.{Took}
-use Rattle.download_module.specs.Stage.{goes_on, IsHashed, Leads}
+use Rattle.download_module.specs.Stage.{goes_on, Leads}
 
 pub took_all : (r : Receiver) (pairs : List Pair) → Took r pairs → received r.limit (of_module pairs) ≡ goes_on r.limit r.stage []
 took_all r pairs took = ap (λ l. received r.limit (of_module l)) (sym (append-nil pairs)) ∙ took.goes []

@@ -1,5 +1,5 @@
 -- A file is received only where the pairs are those of its transfer.
-use Rattle.std.proofs.Common.{◌≡◌, ℕ, suc, ◌+◌, ◌<◌, ◌≤◌, List, [], ◌∷◌, ◌++◌, length, Bool, true, false, Option, Some, None, Ok, Err, Result, IfOk, IfSome, refl, sym, ap, subst, ◌∙◌, arith, append_assoc}
+use Rattle.std.proofs.Common.{◌≡◌, ℕ, ◌+◌, ◌≤◌, List, [], ◌∷◌, ◌++◌, length, Bool, true, false, Option, Some, None, Ok, Err, Result, IfOk, IfSome, refl, sym, ap, subst, ◌∙◌, arith, append_assoc}
 use Rattle.std.proofs.lemmas.Bool.{ltb-false, eqb-true}
 use Rattle.std.proofs.lemmas.List.{append-nil, length-append}
 use Rattle.std.specs.Prelude.{nat_lt, ◌==◌, ◌&&◌, option_and_then, ok_or, if◌then◌else◌}
@@ -81,6 +81,9 @@ more_is size bytes piece more e = by (nat_lt size (length bytes + length piece))
   by true k h = let no = h in cc
   by false k h = (sym (ok_same h), ltb-false size (length bytes + length piece) k)
 
+joined : (all bytes piece more rest : List ℕ) → all ≡ more ++ rest → more ≡ bytes ++ piece → all ≡ bytes ++ (piece ++ rest)
+joined all bytes piece more rest e is = e ∙ ap (λ l. l ++ rest) is ∙ append_assoc bytes piece rest
+
 pieces_only : (name : List ℕ) (size : ℕ) (hash : List ℕ) (place : ℕ) (bytes : List ℕ) (pairs : List Pair) (file : File) → length bytes ≤ size
     → pieces_received name size hash place bytes pairs ≡ Ok (Some file)
     → (pieces : List (List ℕ)) × AreData pairs pieces × (file.name ≡ name) × (file.bytes ≡ bytes ++ flat_map (λ p. p) pieces) × (length file.bytes ≡ size) × (sha384 file.bytes ≡ hash)
@@ -96,7 +99,7 @@ pieces_only name size hash place bytes (pair ∷ pairs) file most e =
       piece ∷ on.0,
       (pair_says place data_key bytes_of pair piece said.1, on.1),
       on.2,
-      on.3 ∙ ap (λ l. l ++ flat_map (λ p. p) on.0) grown.0 ∙ append_assoc bytes piece (flat_map (λ p. p) on.0),
+      joined file.bytes bytes piece with.0 (flat_map (λ p. p) on.0) on.3 grown.0,
       on.4,
       on.5,
     )

@@ -1,6 +1,6 @@
 -- What the pairs of the module say. They come in this order: that it is active, the file's name, its length, its
 -- SHA-384 hash, and its bytes in any number of pieces.
-use Rattle.std.specs.Prelude.{◌≡◌, ◌≤◌, true, ℕ, ◌+◌, ◌-◌, ◌^◌, List, [], ◌∷◌, ◌++◌, length, min, filter, nat_lt, nat_eq, codes, Bool, ◌==◌, if◌then◌else◌, Option, Some, None, option_and_then, Result, Ok, Err, ok_or}
+use Rattle.std.specs.Prelude.{◌≡◌, ◌≤◌, true, ℕ, ◌+◌, ◌-◌, ◌^◌, List, [], ◌∷◌, ◌++◌, length, min, filter, nat_lt, codes, Bool, ◌==◌, if◌then◌else◌, Option, Some, None, option_and_then, Result, Ok, Err, ok_or}
 use Rattle.std.specs.Cmp.Lexicographic.{pointwise}
 use Rattle.std.specs.List.{flat_map, starts_with}
 use Rattle.sha2.specs.Sha512.{sha384}

@@ -1,6 +1,7 @@
 ghost use Rattle.std.specs.Prelude.{◌≡◌, ◌++◌, ◌∷◌, [], List, Ok, Err, IfOk, OnOk, OnErr, IfSome};
 ghost use Rattle.service_info.specs.declared.pair.Pair.{Pair};
 ghost use Rattle.service_info.specs.Module.{Gives};
+ghost use Rattle.download_module.specs.Received.{is_of_module as is_a_pair_of_module};
 
 use crate::down_fault::DownFault;
 use crate::file::File;
@@ -72,8 +73,6 @@ impl Module for Receiver {
         Ok(None)
     }
 }
-
-ghost use Rattle.download_module.specs.Received.{is_of_module as is_a_pair_of_module};
 
 fn is_of_module(pair: &Pair) -> bool
     ensures { result ≡ is_a_pair_of_module pair.now }

@@ -1,4 +1,6 @@
-ghost use Rattle.std.specs.Prelude.{◌≡◌, ◌∷◌, [], IfOk, IfErr};
+ghost use Rattle.std.specs.Prelude.{◌≡◌, ◌∷◌, [], ℕ, IfOk, IfErr};
+ghost use Rattle.download_module.specs.Stage.{Adds, Leads, goes_on, IsHashed};
+ghost use Rattle.download_module.specs.declared.stage.Stage.TheVariants as stage;
 
 use crate::down_fault::DownFault;
 use crate::file::File;
@@ -27,9 +29,6 @@ pub enum Stage {
 }
 
 impl Stage {
-    ghost use Rattle.std.specs.Prelude.{ℕ};
-    ghost use Rattle.download_module.specs.Stage.{Leads, goes_on, IsHashed};
-
     /// The file that came whole, None where no pair came, or why it is refused.
     pub fn finish(self) -> Result<Option<File>, DownFault>
         ensures { (limit : ℕ) → IsHashed self → result ≡ goes_on limit self [] }
@@ -71,10 +70,6 @@ impl Stage {
         }
     }
 }
-
-ghost use Rattle.std.specs.Prelude.{ℕ};
-ghost use Rattle.download_module.specs.Stage.{Adds, Leads};
-ghost use Rattle.download_module.specs.declared.stage.Stage.TheVariants as stage;
 
 fn after_name(alloc: Global, name: Text, size: u64, pair: &Pair) -> Result<Stage, Stage>
     ensures ok { IfOk result (λ after. (limit : ℕ) → Leads limit (stage.Measured name size) (pair.now ∷ []) after) }
