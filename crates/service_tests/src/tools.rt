@@ -1,5 +1,5 @@
 use cbor_core::{Blob, Text};
-use service_info::Pair;
+use service_info::{Module, Pair};
 use std::test::Fail;
 
 /// A pair of a key and a value in hex.
@@ -26,4 +26,12 @@ pub fn file(rt: &HostRuntime, length: usize) -> Result<Vec<u8>, Fail> {
         bytes.push((i % 251) as u8)?;
     }
     Ok(bytes)
+}
+
+/// Whether the next pair of a module has a key.
+pub fn gives<M: Module>(rt: &HostRuntime, module: &mut M, key: &str) -> Result<bool, Fail> {
+    match module.next(rt.alloc())? {
+        Some(pair) => Ok(pair.key.as_list() == key),
+        None => Ok(false),
+    }
 }
