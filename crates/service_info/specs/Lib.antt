@@ -1,0 +1,11 @@
+pub mod Devmod
+pub mod DevmodKey
+pub mod Fault
+pub mod Key
+pub mod ListModule
+pub mod Module
+pub mod Packed
+pub mod Pairs
+pub mod Shipped
+pub mod Size
+pub mod Turn

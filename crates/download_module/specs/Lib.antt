@@ -1,0 +1,5 @@
+pub mod DeviceModule
+pub mod Received
+pub mod Receiver
+pub mod Sent
+pub mod Stage
