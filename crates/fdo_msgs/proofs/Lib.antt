@@ -1,10 +1,7 @@
 pub mod Cuts
 pub mod Numbers
-pub mod RunMore
-pub mod PairLaws
 pub mod RowSteps
-pub mod KindLaws
-pub mod ReadLaws
-pub mod RowBack
-pub mod ValueBack
-pub mod MsgBack
+pub mod RunMore
+pub mod BodyLaws
+pub mod RowLaws
+pub mod BackLaws
