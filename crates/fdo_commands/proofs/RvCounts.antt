@@ -10,9 +10,9 @@ use Rattle.fdo_msgs.specs.declared.answer.Answer.TheVariants as answers
 use Rattle.fdo_msgs.specs.declared.cause.Object.{Object}
 use Rattle.fdo_msgs.specs.declared.cause.Cause.{Cause}
 use Rattle.fdo_msgs.specs.declared.cause.Cause.TheVariants.{Turn}
+use Rattle.fdo_msgs.specs.Kind.{hello, error}
 use Rattle.fdo_msgs.specs.Reading.{body_at}
 use Rattle.fdo_msgs.specs.declared.msg.Msg.{Msg}
-use Rattle.fdo_msgs.specs.declared.msg.Msg.TheVariants as msg
 use Rattle.fdo_msgs.specs.declared.packet.Packet.{Packet}
 use Rattle.rendezvous.specs.RvState.{RvState}
 use Rattle.rendezvous.specs.Receiving.{received_as, with_body}
@@ -74,22 +74,7 @@ received_counts (received.Unfit cause) kind s answer t fit step =
 received_counts received.Hello kind s answer t fit step = nonce_counts step.0 answer s.random step.1 t.random step.2 step.3
 
 no_object_body : (said : Result Msg ℕ) → NoObject (with_body said)
-no_object_body (Ok msg.Hello) = tt
-no_object_body (Ok (msg.AppStart _)) = λ reply. refl
-no_object_body (Ok (msg.SetCredentials _)) = λ reply. refl
-no_object_body (Ok (msg.SetHmac _)) = λ reply. refl
-no_object_body (Ok msg.DiDone) = λ reply. refl
-no_object_body (Ok (msg.HelloAck _)) = λ reply. refl
-no_object_body (Ok (msg.AcceptOwner _)) = λ reply. refl
-no_object_body (Ok (msg.HelloRv _ _)) = λ reply. refl
-no_object_body (Ok (msg.HelloRvAck _ _)) = λ reply. refl
-no_object_body (Ok (msg.HelloDevice _ _ _ _ _ _)) = λ reply. refl
-no_object_body (Ok (msg.GetOvNextEntry _)) = λ reply. refl
-no_object_body (Ok (msg.DeviceReady _ _)) = λ reply. refl
-no_object_body (Ok (msg.OwnerReady _)) = λ reply. refl
-no_object_body (Ok (msg.Done _)) = λ reply. refl
-no_object_body (Ok (msg.Done2 _)) = λ reply. refl
-no_object_body (Ok (msg.Error _ _ _ _ _)) = λ reply. refl
+no_object_body (Ok _) = tt
 no_object_body (Err place) = λ reply. refl
 
 no_object_if : (peer hello : Bool) (said : Result Msg ℕ) (kind : ℕ) → NoObject (if peer then received.PeerError else if hello then with_body said else received.Unfit (Turn kind))
@@ -98,7 +83,7 @@ no_object_if false true said kind = no_object_body said
 no_object_if false false said kind = λ reply. refl
 
 no_object : (packet : Packet) → NoObject (received_as packet)
-no_object packet = no_object_if (packet.kind == 255) (packet.kind == 20) (body_at 20 packet.body) packet.kind
+no_object packet = no_object_if (packet.kind == error) (packet.kind == hello) (body_at hello packet.body) packet.kind
 
 step_counts : (s : RvState) (packet : Packet) (answer : Answer) (t : RvState) → RvStep s packet answer t → CountsIf (blamed answer) s.random.faults t.random.faults
 step_counts s packet answer t step = received_counts (received_as packet) packet.kind s answer t (no_object packet) step

@@ -1,7 +1,10 @@
 pub mod Cuts
 pub mod Numbers
-pub mod RowSteps
 pub mod RunMore
-pub mod BodyLaws
-pub mod RowLaws
-pub mod BackLaws
+pub mod PairLaws
+pub mod RowSteps
+pub mod KindLaws
+pub mod ReadLaws
+pub mod RowBack
+pub mod ValueBack
+pub mod MsgBack

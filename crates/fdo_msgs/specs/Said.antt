@@ -1,182 +1,73 @@
--- Which message the values of a body's parts say, and which values a message has (FIDO Device Onboard 1.1, sections 5.2
--- to 5.5).
-use Rattle.std.specs.Prelude.{ℕ, ℤ, List, [], ◌∷◌, ◌==◌, if◌then◌else◌, Option, Some, None}
-use Rattle.hash_hmac.specs.declared.hash.Hash.{Hash}
-use Rattle.key_codec.specs.declared.sig_info.SigInfo.{SigInfo}
-use Rattle.fdo_msgs.specs.Field.{◌>>=◌}
-use Rattle.fdo_msgs.specs.declared.field.Field.{Field}
-use Rattle.fdo_msgs.specs.declared.field.Field.TheVariants as field
+-- The type of a message, and the body that it is written as (FIDO Device Onboard 1.1, sections 5.2 to 5.5).
+use Rattle.std.specs.Prelude.{ℕ, List, [], ◌∷◌}
+use Rattle.cbor_core.specs.declared.item.Item.TheVariants as items
+use Rattle.cbor_core.specs.Deterministic.{det}
+use Rattle.cbor_core.specs.Numbers.{item_of_integer}
+use Rattle.cose_envelopes.specs.Envelope.{item_of_sign1}
+use Rattle.key_codec.specs.Hash.{item_of_hash}
+use Rattle.key_codec.specs.SigInfo.{item_of_sig_info}
+use Rattle.voucher_chain.specs.Header.{item_of_maybe_hash}
 use Rattle.fdo_msgs.specs.declared.msg.Msg.{Msg}
 use Rattle.fdo_msgs.specs.declared.msg.Msg.TheVariants as msg
+use Rattle.fdo_msgs.specs.Info.{item_of_pairs}
+use Rattle.fdo_msgs.specs.Kind as kind
+use Rattle.fdo_msgs.specs.Mfg.{item_of_mfg}
+use Rattle.fdo_msgs.specs.OwnerSign.{owner_sign_text}
+use Rattle.fdo_msgs.specs.Value.{item_of_flag, item_of_maybe_size, row_text}
 
--- ---- one part
-
-abbrev pub app_start : Field → Option Msg
-app_start (field.Mfg info) = Some (msg.AppStart info)
-app_start _ = None
-
-abbrev pub set_credentials : Field → Option Msg
-set_credentials (field.Bytes header) = Some (msg.SetCredentials header)
-set_credentials _ = None
-
-abbrev pub set_hmac : Field → Option Msg
-set_hmac (field.Hash hmac) = Some (msg.SetHmac hmac)
-set_hmac _ = None
-
-abbrev pub hello_ack : Field → Option Msg
-hello_ack (field.Sixteen nonce) = Some (msg.HelloAck nonce)
-hello_ack _ = None
-
-abbrev pub accept_owner : Field → Option Msg
-accept_owner (field.U32 seconds) = Some (msg.AcceptOwner seconds)
-accept_owner _ = None
-
-abbrev pub get_entry : Field → Option Msg
-get_entry (field.U8 n) = Some (msg.GetOvNextEntry n)
-get_entry _ = None
-
-abbrev pub owner_ready : Field → Option Msg
-owner_ready (field.MaybeSize size) = Some (msg.OwnerReady size)
-owner_ready _ = None
-
-abbrev pub done : Field → Option Msg
-done (field.Sixteen nonce) = Some (msg.Done nonce)
-done _ = None
-
-abbrev pub done2 : Field → Option Msg
-done2 (field.Sixteen nonce) = Some (msg.Done2 nonce)
-done2 _ = None
-
--- ---- the value of a part, where it is of its shape
-
-abbrev pub u16_of : Field → Option ℕ
-u16_of (field.U16 x) = Some x
-u16_of _ = None
-
-abbrev pub u64_of : Field → Option ℕ
-u64_of (field.U64 x) = Some x
-u64_of _ = None
-
-abbrev pub i64_of : Field → Option ℤ
-i64_of (field.I64 x) = Some x
-i64_of _ = None
-
-abbrev pub text_of : Field → Option (List ℕ)
-text_of (field.Text x) = Some x
-text_of _ = None
-
-abbrev pub sixteen_of : Field → Option (List ℕ)
-sixteen_of (field.Sixteen x) = Some x
-sixteen_of _ = None
-
-abbrev pub sig_info_of : Field → Option SigInfo
-sig_info_of (field.SigInfo x) = Some x
-sig_info_of _ = None
-
-abbrev pub maybe_hash_of : Field → Option (Option Hash)
-maybe_hash_of (field.MaybeHash x) = Some x
-maybe_hash_of _ = None
-
-abbrev pub maybe_size_of : Field → Option (Option ℕ)
-maybe_size_of (field.MaybeSize x) = Some x
-maybe_size_of _ = None
-
--- ---- more parts
-
-abbrev pub hello_rv : Field → Field → Option Msg
-hello_rv a b = sixteen_of a >>= λ guid. sig_info_of b >>= λ sig. Some (msg.HelloRv guid sig)
-
-abbrev pub hello_rv_ack : Field → Field → Option Msg
-hello_rv_ack a b = sixteen_of a >>= λ nonce. sig_info_of b >>= λ sig. Some (msg.HelloRvAck nonce sig)
-
-abbrev pub device_ready : Field → Field → Option Msg
-device_ready a b = maybe_hash_of a >>= λ hmac. maybe_size_of b >>= λ size. Some (msg.DeviceReady hmac size)
-
-abbrev pub error_of : ℕ → ℕ → List ℕ → Field → Field → Option Msg
-error_of code kind text (field.Any stamp) (field.Any id) = Some (msg.Error code kind text stamp id)
-error_of code kind text _ _ = None
-
-abbrev pub error : Field → Field → Field → Field → Field → Option Msg
-error a b c d e = u16_of a >>= λ code. u64_of b >>= λ kind. text_of c >>= λ text. error_of code kind text d e
-
-abbrev pub hello_device : Field → Field → Field → Field → Field → Field → Option Msg
-hello_device a b c d e f = u16_of a >>= λ size. sixteen_of b >>= λ guid. sixteen_of c >>= λ nonce. text_of d >>= λ kex. i64_of e >>= λ cipher. sig_info_of f >>= λ sig.
-    Some (msg.HelloDevice size guid nonce kex cipher sig)
-
--- ---- by the message's type
-
-unfoldable pub said_none : ℕ → Option Msg
-said_none kind = if kind == 13 then Some msg.DiDone else if kind == 20 then Some msg.Hello else None
-
-unfoldable pub said_one : ℕ → Field → Option Msg
-said_one kind part =
-    if kind == 10 then app_start part
-    else if kind == 11 then set_credentials part
-    else if kind == 12 then set_hmac part
-    else if kind == 21 then hello_ack part
-    else if kind == 23 then accept_owner part
-    else if kind == 62 then get_entry part
-    else if kind == 67 then owner_ready part
-    else if kind == 70 then done part
-    else if kind == 71 then done2 part
-    else None
-
-unfoldable pub said_two : ℕ → Field → Field → Option Msg
-said_two kind first second =
-    if kind == 30 then hello_rv first second
-    else if kind == 31 then hello_rv_ack first second
-    else if kind == 66 then device_ready first second
-    else None
-
-unfoldable pub said_five : ℕ → Field → Field → Field → Field → Field → Option Msg
-said_five kind a b c d e = if kind == 255 then error a b c d e else None
-
-unfoldable pub said_six : ℕ → Field → Field → Field → Field → Field → Field → Option Msg
-said_six kind a b c d e f = if kind == 60 then hello_device a b c d e f else None
-
-abbrev pub message_of : ℕ → List Field → Option Msg
-message_of kind [] = said_none kind
-message_of kind (a ∷ []) = said_one kind a
-message_of kind (a ∷ b ∷ []) = said_two kind a b
-message_of kind (a ∷ b ∷ c ∷ d ∷ e ∷ []) = said_five kind a b c d e
-message_of kind (a ∷ b ∷ c ∷ d ∷ e ∷ f ∷ []) = said_six kind a b c d e f
-message_of kind _ = None
-
--- ---- the other way
-
--- the message type
 abbrev pub kind_of : Msg → ℕ
-kind_of (msg.AppStart _) = 10
-kind_of (msg.SetCredentials _) = 11
-kind_of (msg.SetHmac _) = 12
-kind_of msg.DiDone = 13
-kind_of msg.Hello = 20
-kind_of (msg.HelloAck _) = 21
-kind_of (msg.AcceptOwner _) = 23
-kind_of (msg.HelloRv _ _) = 30
-kind_of (msg.HelloRvAck _ _) = 31
-kind_of (msg.HelloDevice _ _ _ _ _ _) = 60
-kind_of (msg.GetOvNextEntry _) = 62
-kind_of (msg.DeviceReady _ _) = 66
-kind_of (msg.OwnerReady _) = 67
-kind_of (msg.Done _) = 70
-kind_of (msg.Done2 _) = 71
-kind_of (msg.Error _ _ _ _ _) = 255
+kind_of (msg.AppStart _) = kind.app_start
+kind_of (msg.SetCredentials _) = kind.set_credentials
+kind_of (msg.SetHmac _) = kind.set_hmac
+kind_of msg.DiDone = kind.di_done
+kind_of msg.Hello = kind.hello
+kind_of (msg.HelloAck _) = kind.hello_ack
+kind_of (msg.OwnerSign _ _ _ _ _) = kind.owner_sign
+kind_of (msg.AcceptOwner _) = kind.accept_owner
+kind_of (msg.HelloRv _ _) = kind.hello_rv
+kind_of (msg.HelloRvAck _ _) = kind.hello_rv_ack
+kind_of (msg.ProveToRv _ _ _) = kind.prove_to_rv
+kind_of (msg.RvRedirect _) = kind.rv_redirect
+kind_of (msg.HelloDevice _ _ _ _ _ _) = kind.hello_device
+kind_of (msg.ProveOvHdr _ _ _ _ _ _ _ _ _ _ _ _) = kind.prove_ov_hdr
+kind_of (msg.GetOvNextEntry _) = kind.get_ov_next_entry
+kind_of (msg.OvNextEntry _ _) = kind.ov_next_entry
+kind_of (msg.ProveDevice _ _ _ _ _) = kind.prove_device
+kind_of (msg.SetupDevice _ _ _ _ _) = kind.setup_device
+kind_of (msg.DeviceReady _ _) = kind.device_ready
+kind_of (msg.OwnerReady _) = kind.owner_ready
+kind_of (msg.DeviceInfo _ _) = kind.device_info
+kind_of (msg.OwnerInfo _ _ _) = kind.owner_info
+kind_of (msg.Done _) = kind.done
+kind_of (msg.Done2 _) = kind.done2
+kind_of (msg.Error _ _ _ _ _) = kind.error
 
-abbrev pub fields_of : Msg → List Field
-fields_of (msg.AppStart info) = field.Mfg info ∷ []
-fields_of (msg.SetCredentials header) = field.Bytes header ∷ []
-fields_of (msg.SetHmac hmac) = field.Hash hmac ∷ []
-fields_of msg.DiDone = []
-fields_of msg.Hello = []
-fields_of (msg.HelloAck nonce) = field.Sixteen nonce ∷ []
-fields_of (msg.AcceptOwner seconds) = field.U32 seconds ∷ []
-fields_of (msg.HelloRv guid sig) = field.Sixteen guid ∷ field.SigInfo sig ∷ []
-fields_of (msg.HelloRvAck nonce sig) = field.Sixteen nonce ∷ field.SigInfo sig ∷ []
-fields_of (msg.HelloDevice size guid nonce kex cipher sig) = field.U16 size ∷ field.Sixteen guid ∷ field.Sixteen nonce ∷ field.Text kex ∷ field.I64 cipher ∷ field.SigInfo sig ∷ []
-fields_of (msg.GetOvNextEntry n) = field.U8 n ∷ []
-fields_of (msg.DeviceReady hmac size) = field.MaybeHash hmac ∷ field.MaybeSize size ∷ []
-fields_of (msg.OwnerReady size) = field.MaybeSize size ∷ []
-fields_of (msg.Done nonce) = field.Sixteen nonce ∷ []
-fields_of (msg.Done2 nonce) = field.Sixteen nonce ∷ []
-fields_of (msg.Error code kind text stamp id) = field.U16 code ∷ field.U64 kind ∷ field.Text text ∷ field.Any stamp ∷ field.Any id ∷ []
+-- an array of the values' deterministic spellings; what is kept as received (an entry, to0d, to1d, and the envelopes of signed
+-- bodies) stands as it is
+abbrev pub body_of : Msg → List ℕ
+body_of (msg.AppStart info) = row_text (det (item_of_mfg info) ∷ [])
+body_of (msg.SetCredentials header) = row_text (det (items.Bytes header.raw) ∷ [])
+body_of (msg.SetHmac hmac) = row_text (det (item_of_hash hmac) ∷ [])
+body_of msg.DiDone = row_text []
+body_of msg.Hello = row_text []
+body_of (msg.HelloAck nonce) = row_text (det (items.Bytes nonce) ∷ [])
+body_of (msg.OwnerSign to0d _ _ _ to1d) = owner_sign_text to0d to1d.raw
+body_of (msg.AcceptOwner seconds) = row_text (det (items.Uint seconds) ∷ [])
+body_of (msg.HelloRv guid sig) = row_text (det (items.Bytes guid) ∷ det (item_of_sig_info sig) ∷ [])
+body_of (msg.HelloRvAck nonce sig) = row_text (det (items.Bytes nonce) ∷ det (item_of_sig_info sig) ∷ [])
+body_of (msg.ProveToRv _ _ sign) = det (item_of_sign1 sign)
+body_of (msg.RvRedirect to1d) = to1d.raw
+body_of (msg.HelloDevice size guid nonce kex cipher sig) =
+    row_text (det (items.Uint size) ∷ det (items.Bytes guid) ∷ det (items.Bytes nonce) ∷ det (items.Text kex) ∷ det (item_of_integer cipher) ∷ det (item_of_sig_info sig) ∷ [])
+body_of (msg.ProveOvHdr _ _ _ _ _ _ _ _ _ _ _ sign) = det (item_of_sign1 sign)
+body_of (msg.GetOvNextEntry n) = row_text (det (items.Uint n) ∷ [])
+body_of (msg.OvNextEntry n entry) = row_text (det (items.Uint n) ∷ entry.raw ∷ [])
+body_of (msg.ProveDevice _ _ _ _ sign) = det (item_of_sign1 sign)
+body_of (msg.SetupDevice _ _ _ _ sign) = det (item_of_sign1 sign)
+body_of (msg.DeviceReady hmac size) = row_text (det (item_of_maybe_hash hmac) ∷ det (item_of_maybe_size size) ∷ [])
+body_of (msg.OwnerReady size) = row_text (det (item_of_maybe_size size) ∷ [])
+body_of (msg.DeviceInfo more pairs) = row_text (det (item_of_flag more) ∷ det (item_of_pairs pairs) ∷ [])
+body_of (msg.OwnerInfo more done pairs) = row_text (det (item_of_flag more) ∷ det (item_of_flag done) ∷ det (item_of_pairs pairs) ∷ [])
+body_of (msg.Done nonce) = row_text (det (items.Bytes nonce) ∷ [])
+body_of (msg.Done2 nonce) = row_text (det (items.Bytes nonce) ∷ [])
+body_of (msg.Error code kind text stamp id) = row_text (det (items.Uint code) ∷ det (items.Uint kind) ∷ det (items.Text text) ∷ det stamp ∷ det id ∷ [])

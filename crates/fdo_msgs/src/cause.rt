@@ -1,7 +1,10 @@
 ghost use Rattle.std.specs.Prelude.{◌≡◌};
 
 use crate::http_fault::HttpFault;
+use crate::kind::OWNER_SIGN;
 use crate::msg::Guid;
+use service_info::InfoFault;
+use voucher_chain::ChainFault;
 
 /// Why a message is refused. Each cause has one error code (FIDO Device Onboard 1.1, the error codes of message type
 /// 255), which for some depends on the type of the message.
@@ -27,6 +30,8 @@ pub enum Cause {
     HashDiffers,
     /// A Guid is not the session's.
     GuidDiffers,
+    /// A voucher is refused.
+    Chain(ChainFault),
     /// The owner key is not that of the voucher's last entry.
     OwnerKey,
     /// An address, by its index, has no IP of 4 or 16 bytes and no name.
@@ -39,6 +44,8 @@ pub enum Cause {
     Changed(Option<Guid>),
     /// The Guid is kept already.
     Clash(Guid),
+    /// ServiceInfo is refused.
+    Info(InfoFault),
     /// A bound on sizes is passed: the bound.
     Size(u64),
     /// The owner asks for the credential to be used again, and the device doesn't offer that.
@@ -77,7 +84,7 @@ impl Cause {
     {
         match self {
             Cause::Token => Some(1),
-            Cause::OwnerKey => Some(2),
+            Cause::Chain(_) | Cause::OwnerKey => Some(2),
             Cause::NotVerified | Cause::Nonce | Cause::HashDiffers => Some(at_owner_sign(kind)),
             Cause::Address(_) => Some(4),
             Cause::GuidDiffers => Some(5),
@@ -105,12 +112,14 @@ impl Cause {
             Cause::Nonce => "nonce",
             Cause::HashDiffers => "hash",
             Cause::GuidDiffers => "guid",
+            Cause::Chain(_) => "chain",
             Cause::OwnerKey => "ownerkey",
             Cause::Address(_) => "address",
             Cause::Missing(_) => "missing",
             Cause::EntryNumber(_) => "entry",
             Cause::Changed(_) => "changed",
             Cause::Clash(_) => "clash",
+            Cause::Info(_) => "info",
             Cause::Size(_) => "size",
             Cause::Reuse => "reuse",
             Cause::Full(_) => "full",
@@ -127,5 +136,5 @@ ghost use Rattle.fdo_msgs.specs.Cause.{owner_sign_code};
 fn at_owner_sign(kind: u8) -> u16
     ensures { result ≡ owner_sign_code kind }
 {
-    if kind == 22 { 3 } else { 101 }
+    if kind == OWNER_SIGN { 3 } else { 101 }
 }

@@ -4,10 +4,10 @@ ghost use Rattle.fdo_msgs.specs.Refusal.{error_of};
 
 use crate::answer::Answer;
 use crate::cause::Cause;
-use crate::msg::Msg;
+use crate::kind;
 use crate::packet::Packet;
 use crate::token::Token;
-use crate::write::write_body;
+use crate::write::error_body;
 use cbor_core::{Item, NoMemory, Text};
 use std::alloc::Global;
 
@@ -23,19 +23,12 @@ pub fn error_packet(
     ensures { IfOk result (λ packet. packet ≡ error_of cause.now kind token) }
 {
     let code = cause.code(kind).unwrap();
-    let body = write_body(
-        alloc,
-        &Msg::Error {
-            code,
-            kind: u64::from(kind),
-            text: Text::from_str(alloc, text(code))?,
-            stamp: Item::Simple(22),
-            id: Item::Uint(0),
-        },
-    )?;
+    let text = Text::from_str(alloc, text(code))?;
+    let (stamp, id) = (Item::Simple(22), Item::Uint(0));
+    let body = error_body(alloc, code, u64::from(kind), &text, &stamp, &id)?;
     Ok(Packet {
         token,
-        kind: 255,
+        kind: kind::ERROR,
         body,
     })
 }

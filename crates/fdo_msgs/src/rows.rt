@@ -1,30 +1,34 @@
-ghost use Rattle.std.specs.Prelude.{◌≡◌, length, option_map};
-ghost use Rattle.cbor_core.specs.declared.item.Item.{out-Item};
-ghost use Rattle.cbor_core.specs.Spots.{spot_item, spot_parts};
-ghost use Rattle.fdo_msgs.specs.Row.{shapes_of, has_length, field_at, fields_at, row_at, Reads};
+ghost use Rattle.std.specs.Prelude.{◌≡◌, option_map, IfOk};
+ghost use Rattle.cbor_core.specs.Spots.{spot_parts};
+ghost use Rattle.fdo_msgs.specs.Row.{shapes_of, is_shape, place_at, parts_place, row_place};
 
-use crate::body::BodyFault;
-use crate::faults::find_fault;
-use crate::field::Field;
-use crate::read_field::read_value;
+use crate::info::{find_pairs_fault, pairs_part};
+use crate::kind;
+use crate::mfg::{find_mfg_fault, mfg_part};
 use crate::shape::Shape;
-use cbor_core::Part;
+use crate::value::{
+    flag_part, has_length, header_part, maybe_hash_part, maybe_size_part, sig_info_part,
+    sixteen_part, u8_part, u16_part, u32_part, u64_part,
+};
+use cbor_core::{NoMemory, Part};
+use key_codec::{find_hash_fault, find_sig_info_fault, read_hash_part};
 use std::alloc::Global;
+use voucher_chain::{find_entry_fault, read_entry_part};
 
-/// What the parts of the body of a type are, in their order, or None for a type whose bodies are not read here.
+/// What the parts of the body of a type are, in their order, or None for a type whose body is no row of parts.
 #[tactic(auto, unfolding(crate::specs::Row::shapes_of))]
 pub fn shapes(kind: u8) -> Option<&'static [Shape]>
     ensures { option_map (λ shapes. shapes.now) result ≡ shapes_of kind }
 {
     match kind {
-        10 => Some(&[Shape::Mfg]),
-        11 => Some(&[Shape::Bytes]),
-        12 => Some(&[Shape::Hash]),
-        13 | 20 => Some(&[]),
-        21 | 70 | 71 => Some(&[Shape::Sixteen]),
-        23 => Some(&[Shape::U32]),
-        30 | 31 => Some(&[Shape::Sixteen, Shape::SigInfo]),
-        60 => Some(&[
+        kind::APP_START => Some(&[Shape::Mfg]),
+        kind::SET_CREDENTIALS => Some(&[Shape::Header]),
+        kind::SET_HMAC => Some(&[Shape::Hash]),
+        kind::DI_DONE | kind::HELLO => Some(&[]),
+        kind::HELLO_ACK | kind::DONE | kind::DONE2 => Some(&[Shape::Sixteen]),
+        kind::ACCEPT_OWNER => Some(&[Shape::U32]),
+        kind::HELLO_RV | kind::HELLO_RV_ACK => Some(&[Shape::Sixteen, Shape::SigInfo]),
+        kind::HELLO_DEVICE => Some(&[
             Shape::U16,
             Shape::Sixteen,
             Shape::Sixteen,
@@ -32,63 +36,84 @@ pub fn shapes(kind: u8) -> Option<&'static [Shape]>
             Shape::I64,
             Shape::SigInfo,
         ]),
-        62 => Some(&[Shape::U8]),
-        66 => Some(&[Shape::MaybeHash, Shape::MaybeSize]),
-        67 => Some(&[Shape::MaybeSize]),
-        255 => Some(&[Shape::U16, Shape::U64, Shape::Text, Shape::Any, Shape::Any]),
+        kind::GET_OV_NEXT_ENTRY => Some(&[Shape::U8]),
+        kind::OV_NEXT_ENTRY => Some(&[Shape::U8, Shape::Entry]),
+        kind::DEVICE_READY => Some(&[Shape::MaybeHash, Shape::MaybeSize]),
+        kind::OWNER_READY => Some(&[Shape::MaybeSize]),
+        kind::DEVICE_INFO => Some(&[Shape::Flag, Shape::Pairs]),
+        kind::OWNER_INFO => Some(&[Shape::Flag, Shape::Flag, Shape::Pairs]),
+        kind::ERROR => Some(&[Shape::U16, Shape::U64, Shape::Text, Shape::Any, Shape::Any]),
         _ => None,
     }
 }
 
-/// The values of the parts of an array, by their shapes.
-pub(crate) fn read_row(
+/// Where a body is at fault whose parts are not of these shapes.
+pub(crate) fn find_row_fault(
     alloc: Global,
     shapes: &[Shape],
     body: &Part,
-) -> Result<Vec<Field>, BodyFault>
-    ensures { Reads (λ fields. fields.items) (row_at shapes.now body.now.spot) result }
+) -> Result<usize, NoMemory>
+    ensures { IfOk result (λ at. at ≡ row_place shapes.now body.now.spot) }
 {
-    if is_row(shapes, body) {
-        read_fields(alloc, shapes, body)
+    if has_length(body, shapes.len() as u64) {
+        find_part_fault(alloc, shapes, body)
     } else {
-        Err(BodyFault::Body(body.at()))
+        Ok(body.at())
     }
 }
 
-fn read_fields(alloc: Global, shapes: &[Shape], body: &Part) -> Result<Vec<Field>, BodyFault>
-    ensures { Reads (λ fields. fields.items) (fields_at body.now.spot.at shapes.now (spot_parts body.now.spot)) result }
+fn find_part_fault(alloc: Global, shapes: &[Shape], body: &Part) -> Result<usize, NoMemory>
+    ensures { IfOk result (λ at. at ≡ parts_place body.now.spot.at shapes.now (spot_parts body.now.spot)) }
 {
-    let mut fields = Vec::with_capacity(alloc, shapes.len())?;
     let mut next = body.inside();
     for shape in shapes {
         let Some(part) = next else {
-            return Err(BodyFault::Body(body.at()));
+            return Ok(body.at());
         };
-        match read_field(alloc, *shape, &part) {
-            Ok(field) => fields.push(field)?,
-            Err(fault) => return Err(fault),
+        let fits = is_of(alloc, *shape, &part)?;
+        if !fits {
+            return find_fault(alloc, *shape, &part);
         }
         next = part.after();
     }
-    Ok(fields)
+    Ok(body.at())
 }
 
-/// Whether a part is an array with as many parts.
-fn is_row(shapes: &[Shape], body: &Part) -> bool
-    ensures { result ≡ has_length (length shapes.now) (out-Item (spot_item body.now.spot)) }
+/// Whether a part is of a shape.
+fn is_of(alloc: Global, shape: Shape, part: &Part) -> Result<bool, NoMemory>
+    ensures { IfOk result (λ is. is ≡ is_shape shape part.now.spot) }
 {
-    match (body.major(), body.count()) {
-        (4, Some(count)) => count == shapes.len() as u64,
-        _ => false,
+    match shape {
+        Shape::U8 => Ok(u8_part(part).is_some()),
+        Shape::U16 => Ok(u16_part(part).is_some()),
+        Shape::U32 => Ok(u32_part(part).is_some()),
+        Shape::U64 => Ok(u64_part(part).is_some()),
+        Shape::I64 => Ok(part.integer().is_some()),
+        Shape::Flag => Ok(flag_part(part).is_some()),
+        Shape::Text => Ok(part.is_text()),
+        Shape::Sixteen => Ok(sixteen_part(alloc, part)?.is_some()),
+        Shape::Any => Ok(true),
+        Shape::SigInfo => Ok(sig_info_part(alloc, part)?.is_some()),
+        Shape::Hash => Ok(read_hash_part(alloc, part)?.is_some()),
+        Shape::MaybeHash => Ok(maybe_hash_part(alloc, part)?.is_some()),
+        Shape::MaybeSize => Ok(maybe_size_part(part).is_some()),
+        Shape::Mfg => Ok(mfg_part(alloc, part)?.is_some()),
+        Shape::Header => Ok(header_part(alloc, part)?.is_some()),
+        Shape::Entry => Ok(read_entry_part(alloc, part)?.is_some()),
+        Shape::Pairs => Ok(pairs_part(alloc, part)?.is_some()),
     }
 }
 
-/// The value of a part of a shape.
-fn read_field(alloc: Global, shape: Shape, part: &Part) -> Result<Field, BodyFault>
-    ensures { Reads (λ field. field) (field_at shape part.now.spot) result }
+/// Where a part that is not of a shape is not of it: the offset of the first part inside that is at fault, or its own.
+fn find_fault(alloc: Global, shape: Shape, part: &Part) -> Result<usize, NoMemory>
+    ensures { IfOk result (λ at. at ≡ place_at shape part.now.spot) }
 {
-    match read_value(alloc, shape, part)? {
-        Some(field) => Ok(field),
-        None => Err(BodyFault::Body(find_fault(shape, part))),
+    match shape {
+        Shape::SigInfo => Ok(find_sig_info_fault(part)),
+        Shape::Hash | Shape::MaybeHash => Ok(find_hash_fault(part)),
+        Shape::Mfg => Ok(find_mfg_fault(part)),
+        Shape::Entry => find_entry_fault(alloc, part, None),
+        Shape::Pairs => find_pairs_fault(alloc, part),
+        _ => Ok(part.at()),
     }
 }

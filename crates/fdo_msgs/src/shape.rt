@@ -8,8 +8,9 @@ pub enum Shape {
     U64,
     /// A number of 64 bits with a sign.
     I64,
+    /// True or false.
+    Flag,
     Text,
-    Bytes,
     /// A byte string of 16 bytes: a Guid or a nonce.
     Sixteen,
     /// Any item.
@@ -24,4 +25,10 @@ pub enum Shape {
     MaybeSize,
     /// What a device says of itself in DI.AppStart.
     Mfg,
+    /// A byte string that holds a voucher's header.
+    Header,
+    /// A voucher's entry.
+    Entry,
+    /// Pairs of ServiceInfo.
+    Pairs,
 }

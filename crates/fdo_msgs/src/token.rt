@@ -1,9 +1,13 @@
-ghost use Rattle.std.specs.Prelude.{◌≡◌, ◌≤◌, ◌<◌, ◌↔◌, ◌++◌, length, vec_len, IsSome, IfSome, IfOk};
+ghost use Rattle.std.specs.Prelude.{◌≡◌, ◌==◌, ◌≤◌, ◌<◌, ◌↔◌, ◌++◌, length, vec_len, IsSome, IfSome, IfOk};
+ghost use Rattle.std.specs.Cmp.Lexicographic.{pointwise};
+ghost use Rattle.std.specs.Cmp.Rules.{comparing, hashing};
+ghost use Rattle.std.proofs.Common.{rules};
 
 use base64::engine::general_purpose::URL_SAFE_NO_PAD;
 use cbor_core::NoMemory;
 use std::alloc::Global;
 use std::fmt;
+use std::hash::{Hash, Hasher};
 use std::marker::Model;
 
 /// The most bytes that a token has.
@@ -32,6 +36,32 @@ impl fmt::Debug for Token {
         f.debug_struct("Token")
             .field("bytes", &self.value.len())
             .finish_non_exhaustive()
+    }
+}
+
+impl PartialEq for Token {
+    ghost eq = { pointwise ◌==◌ };
+
+    ghost laws = { Prim.search (comparing, rules) };
+
+    fn eq(&self, other: &Token) -> bool {
+        self.as_list() == other.as_list()
+    }
+}
+
+impl Eq for Token {
+    ghost laws = { Prim.search (comparing, rules) };
+}
+
+impl Hash for Token {
+    ghost use Rattle.std.specs.Hash as fed;
+
+    ghost hash_input = { fed.slice fed.u8 };
+
+    ghost respects_eq = { Prim.search (hashing, rules) };
+
+    fn hash<H: Hasher>(&self, state: &mut H) {
+        self.as_list().hash(state)
     }
 }
 

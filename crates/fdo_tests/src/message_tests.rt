@@ -86,7 +86,8 @@ fn bodies_are_read_to_their_end(rt: HostRuntime) -> Result<(), NoMemory> {
     for (bytes, fault) in &HELLOS {
         match read_body(rt.alloc(), 20, bytes) {
             Ok(said) => {
-                assert!(rt; matches!(said, Msg::Hello));
+                assert!(rt; matches!(&said, Msg::Hello));
+                drop(said);
                 assert_eq!(rt; *fault, None);
             }
             Err(BodyFault::Body(place)) => assert_eq!(rt; *fault, Some(place)),
@@ -115,7 +116,7 @@ static BODIES: [BodyCase; 38] = [
     (10, b"\x81\x85\x02\x04\x00\x00\x00", Some(2), b""),
     (10, b"\x81\x85\x0a\x04\x00\x00\x00", Some(3), b""),
     (10, b"\x81\x84\x0a\x00\x60\x60", Some(1), b""),
-    (11, b"\x81\x41h", None, b"\x81\x41h"),
+    (11, b"\x81\x41h", Some(1), b""),
     (11, b"\x81\x61h", Some(1), b""),
     (
         12,
@@ -230,8 +231,9 @@ fn bodies_of_each_type_are_read_and_written(rt: HostRuntime) -> Result<(), NoMem
     for case in &BODIES {
         match read_body(rt.alloc(), case.0, case.1) {
             Ok(said) => {
-                let body = write_body(rt.alloc(), &said)?;
-                assert_eq!(rt; body.as_list(), case.3);
+                let written = write_body(rt.alloc(), &said);
+                drop(said);
+                assert_eq!(rt; written?.as_list(), case.3);
                 assert_eq!(rt; case.2, None);
             }
             Err(BodyFault::Body(place)) => assert_eq!(rt; case.2, Some(place)),
@@ -357,8 +359,10 @@ fn errors_are_written(rt: HostRuntime) -> Result<(), NoMemory> {
 #[test]
 fn bodies_are_written(rt: HostRuntime) -> Result<(), NoMemory> {
     let alloc = rt.alloc();
-    let hello = write_body(alloc, &Msg::Hello)?;
-    assert_eq!(rt; hello.as_list(), b"\x80".as_slice());
+    let said = Msg::Hello;
+    let written = write_body(alloc, &said);
+    drop(said);
+    assert_eq!(rt; written?.as_list(), b"\x80".as_slice());
     let error = error_packet(alloc, &Cause::Outside(Object::Random), 20, None)?;
     assert_eq!(rt; error.kind, 255);
     assert_eq!(rt;
@@ -372,9 +376,10 @@ fn bodies_are_written(rt: HostRuntime) -> Result<(), NoMemory> {
         stamp: Item::Nint(0),
         id: Item::Bytes(Blob::from_slice(alloc, b"ab")?),
     };
-    let body = write_body(alloc, &said)?;
+    let written = write_body(alloc, &said);
+    drop(said);
     assert_eq!(rt;
-        body.as_list(),
+        written?.as_list(),
         b"\x85\x06\x19\x01\x2c\x69not found\x20\x42ab".as_slice()
     );
     Ok(())

@@ -6,13 +6,17 @@ use std::io;
 /// the place of the first fault.
 pub fn answer(alloc: Global, kind: u8, bytes: &[u8]) -> io::Result<String> {
     let text = match read_body(alloc, kind, bytes) {
-        Ok(message) => match write_body(alloc, &message) {
-            Ok(body) => {
-                let digits = hex::encode(alloc, body.as_list())?;
-                format!(in alloc; "Ok {digits}")?
+        Ok(message) => {
+            let written = write_body(alloc, &message);
+            drop(message);
+            match written {
+                Ok(body) => {
+                    let digits = hex::encode(alloc, body.as_list())?;
+                    format!(in alloc; "Ok {digits}")?
+                }
+                Err(_) => format!(in alloc; "NoMemory")?,
             }
-            Err(_) => format!(in alloc; "NoMemory")?,
-        },
+        }
         Err(BodyFault::Body(place)) => format!(in alloc; "Body {place}")?,
         Err(BodyFault::NoMemory) => format!(in alloc; "NoMemory")?,
     };

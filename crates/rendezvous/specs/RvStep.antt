@@ -2,7 +2,8 @@
 use Rattle.std.specs.Prelude.{◌≡◌, ℕ, List, Result, Ok, Err, Some, None}
 use Rattle.fdo_ports.specs.Draw.{Drawn, Draws}
 use Rattle.fdo_ports.specs.declared.failed.Failed.{Failed}
-use Rattle.fdo_msgs.specs.Body.{body_of}
+use Rattle.fdo_msgs.specs.Kind.{hello, hello_ack as hello_ack_kind}
+use Rattle.fdo_msgs.specs.Said.{body_of}
 use Rattle.fdo_msgs.specs.Refusal.{error_of}
 use Rattle.fdo_msgs.specs.Token.{bearer_token}
 use Rattle.fdo_msgs.specs.declared.answer.Answer.{Answer}
@@ -23,17 +24,17 @@ refusal kind cause = answers.Refused (error_of cause kind None) cause
 
 -- TO0.HelloAck: the nonce, under the session's token
 unfoldable pub hello_ack : List ℕ → List ℕ → Answer
-hello_ack nonce token = answers.Reply (record { token = Some (bearer_token token); kind = 21; body = body_of (HelloAck nonce) })
+hello_ack nonce token = answers.Reply (record { token = Some (bearer_token token); kind = hello_ack_kind; body = body_of (HelloAck nonce) })
 
 -- with the token's draw
 abbrev pub TokenStep : List ℕ → Result (List ℕ) Failed → Answer → Type 0
 TokenStep nonce (Ok token) answer = answer ≡ hello_ack nonce token
-TokenStep nonce (Err _) answer = answer ≡ refusal 20 (Outside Random)
+TokenStep nonce (Err _) answer = answer ≡ refusal hello (Outside Random)
 
 -- with the nonce's draw, and then the token's
 abbrev pub NonceStep : Result (List ℕ) Failed → Drawn → Answer → Drawn → Type 0
 NonceStep (Ok nonce) between answer after = (token : Result (List ℕ) Failed) × Draws between token after × TokenStep nonce token answer
-NonceStep (Err _) between answer after = (answer ≡ refusal 20 (Outside Random)) × (after ≡ between)
+NonceStep (Err _) between answer after = (answer ≡ refusal hello (Outside Random)) × (after ≡ between)
 
 -- TO0.Hello (section 5.3.1): a nonce is drawn, and then the session's token
 abbrev pub HelloStep : Drawn → Answer → Drawn → Type 0

@@ -1,7 +1,7 @@
 ghost use Rattle.std.specs.Prelude.{◌≡◌, IfOk, OnErr};
 
 use cbor_core::NoMemory;
-use fdo_msgs::{BodyFault, Cause, Msg, Packet, read_body};
+use fdo_msgs::{BodyFault, Cause, Packet, kind, read_body};
 use std::alloc::Global;
 
 /// What a message is to the server, before it calls on anything: the row of its answer.
@@ -15,19 +15,22 @@ pub enum Received {
 }
 
 impl Received {
+    ghost use Rattle.fdo_msgs.specs.Kind.{hello};
     ghost use Rattle.rendezvous.specs.Receiving.{received_as};
 
     /// The first cause among type and body, or the message.
     pub(crate) fn of(alloc: Global, packet: &Packet) -> Result<Received, NoMemory>
         ensures received { IfOk result (λ found. found ≡ received_as packet.now) }
         // memory is wanted for the body of a type that the server takes
-        ensures no_memory { OnErr result (packet.now.kind ≡ 20) }
+        ensures no_memory { OnErr result (packet.now.kind ≡ hello) }
     {
         match packet.kind {
-            255 => Ok(Received::PeerError),
-            20 => match read_body(alloc, 20, packet.body.as_list()) {
-                Ok(Msg::Hello) => Ok(Received::Hello),
-                Ok(_) => Ok(Received::Unfit(Cause::Turn(20))),
+            kind::ERROR => Ok(Received::PeerError),
+            kind::HELLO => match read_body(alloc, kind::HELLO, packet.body.as_list()) {
+                Ok(message) => {
+                    drop(message);
+                    Ok(Received::Hello)
+                }
                 Err(BodyFault::Body(place)) => Ok(Received::Unfit(Cause::Body(place))),
                 Err(BodyFault::NoMemory) => Err(NoMemory),
             },

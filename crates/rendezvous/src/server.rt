@@ -5,7 +5,7 @@ ghost use Rattle.rendezvous.specs.RvStep.{RvStep, HelloStep, NonceStep};
 
 use crate::received::Received;
 use cbor_core::NoMemory;
-use fdo_msgs::{Answer, Cause, Msg, Object, Packet, refuse, token_text, write_body};
+use fdo_msgs::{Answer, Cause, Msg, Object, Packet, kind, refuse, token_text};
 use fdo_ports::{Failed, Random};
 use std::alloc::Global;
 
@@ -57,7 +57,7 @@ fn with_nonce<N: Random>(
     ensures no_memory { OnErr result (DrawsToken nonce (drawn N.Random random.old) (drawn N.Random random.new)) }
 {
     let Ok(nonce) = nonce else {
-        return refuse(alloc, Cause::Outside(Object::Random), 20, None);
+        return refuse(alloc, Cause::Outside(Object::Random), kind::HELLO, None);
     };
     let token = random.draw16();
     hello_ack(alloc, nonce, token)
@@ -75,13 +75,11 @@ fn hello_ack(
     ensures { IfOk result (λ answer. TokenStep nonce token answer) }
 {
     let Ok(token) = token else {
-        return refuse(alloc, Cause::Outside(Object::Random), 20, None);
+        return refuse(alloc, Cause::Outside(Object::Random), kind::HELLO, None);
     };
     let token = token_text(alloc, &token)?;
-    let body = write_body(alloc, &Msg::HelloAck(nonce))?;
-    Ok(Answer::Reply(Packet {
-        token: Some(token),
-        kind: 21,
-        body,
-    }))
+    let message = Msg::HelloAck(nonce);
+    let packet = Packet::of(alloc, Some(token), &message);
+    drop(message);
+    Ok(Answer::Reply(packet?))
 }
