@@ -1,5 +1,5 @@
-ghost use Rattle.std.specs.Prelude.{◌≡◌, Ok, IfOk};
-ghost use Rattle.cbor_core.specs.Whole.{seen_at};
+ghost use Rattle.std.specs.Prelude.{◌≡◌, Ok, IfOk, Some};
+ghost use Rattle.cbor_core.specs.Whole.{seen_at, ended as ended_at};
 ghost use Rattle.fdo_msgs.specs.declared.msg.Msg.{Msg};
 ghost use Rattle.fdo_msgs.specs.Body.{IsBody, is_kind as is_a_kind, msg_seen, row_seen, msg_place};
 ghost use Rattle.fdo_msgs.specs.Reading.{ReadsBody, IsFault, body_at};
@@ -60,16 +60,22 @@ fn read_whole(alloc: Global, kind: u8, bytes: &[u8]) -> Result<Msg, BodyFault>
 {
     match Part::open(alloc, bytes) {
         Ok((part, read)) => match read_part(alloc, kind, &part)? {
-            Some(msg) => {
-                if read == bytes.len() {
-                    Ok(msg)
-                } else {
-                    Err(BodyFault::Body(read))
-                }
-            }
+            Some(msg) => ended(msg, read, bytes.len()),
             None => Err(BodyFault::Body(find_fault(alloc, kind, &part)?)),
         },
         Err(fault) => Err(body_fault(fault)),
+    }
+}
+
+/// The message, where its body ends with it.
+fn ended(msg: Msg, read: usize, length: usize) -> Result<Msg, BodyFault>
+    ensures { ReadsBody (ended_at length read 0 (Some msg)) result }
+{
+    if read == length {
+        Ok(msg)
+    } else {
+        drop(msg);
+        Err(BodyFault::Body(read))
     }
 }
 
