@@ -5,6 +5,7 @@ use Rattle.std.specs.Vec.{vec_capacity}
 use Rattle.std.specs.declared.vec.Vec.{Vec}
 use Rattle.std.specs.declared.alloc.Global.{Global}
 use Rattle.port_base.specs.declared.calls.Calls.{Calls}
+use Rattle.fdo_ports.specs.declared.list_clock.ListClock.{ListClock}
 use Rattle.fdo_ports.specs.declared.list_random.ListRandom.{ListRandom}
 use Rattle.fdo_ports.specs.declared.memory_sink.MemorySink.{MemorySink}
 use Rattle.fdo_ports.specs.declared.memory_source.MemorySource.{MemorySource}
@@ -70,6 +71,16 @@ draws_left r = drop r.given r.content.items
 
 abbrev pub random_calls : ListRandom → Calls
 random_calls r = r.calls
+
+-- the seconds that a list has given, and those that are left
+abbrev pub seconds_given : ListClock → List ℕ
+seconds_given c = take c.given c.content.items
+
+abbrev pub seconds_left : ListClock → List ℕ
+seconds_left c = drop c.given c.content.items
+
+abbrev pub clock_calls : ListClock → Calls
+clock_calls c = c.calls
 
 -- what a source that never fails has left
 abbrev pub plain_left : PlainSource → List ℕ
