@@ -130,7 +130,7 @@ fn payload_head(generation: u64, length: u32) -> [u8; 12]
 
 /// Whether one generation counts as greater than another: 0 does so against 2^64 - 1.
 #[tactic(auto, unfolding(crate::specs::Slots::is_newer))]
-fn is_newer(one: u64, other: u64) -> bool
+pub fn is_newer(one: u64, other: u64) -> bool
     ensures { result ≡ is_newer one other }
 {
     if one == 0 && other == u64::MAX {
@@ -143,14 +143,14 @@ fn is_newer(one: u64, other: u64) -> bool
 }
 
 /// The bytes from an offset on.
-fn from(bytes: &[u8], at: u64) -> &[u8]
+pub fn from(bytes: &[u8], at: u64) -> &[u8]
     ensures { result.now ≡ drop at bytes.now }
 {
     bytes.split_at(bytes.len().min(at as usize)).1
 }
 
 /// Whether a gate stands at the front and is closed.
-fn is_shut(bytes: &[u8]) -> bool
+pub fn is_shut(bytes: &[u8]) -> bool
     ensures { result ≡ is_shut bytes.now }
 {
     match bytes {
@@ -161,7 +161,7 @@ fn is_shut(bytes: &[u8]) -> bool
 
 /// The generation and the body of the slot at the front of some bytes, where it is open.
 #[tactic(auto, unfolding(crate::specs::Slots::slot))]
-fn open_slot(most: u32, bytes: &[u8]) -> Option<(u64, &[u8])>
+pub fn open_slot(most: u32, bytes: &[u8]) -> Option<(u64, &[u8])>
     ensures { MatchOption result (slot most bytes.now ≡ None) (λ r. slot most bytes.now ≡ Some (r.0, r.1.now)) }
 {
     let [1, behind @ ..] = bytes else {

@@ -1,0 +1,11 @@
+pub mod RecordLaws
+pub mod AreaLaws
+pub mod AreaPicks
+pub mod FileLaws
+pub mod Recording
+pub mod Closing
+pub mod Snapping
+pub mod Joining
+pub mod Surveying
+pub mod Finding
+pub mod Bytes

@@ -1,0 +1,4 @@
+pub mod Records
+pub mod Areas
+pub mod Changing
+pub mod Found
