@@ -1,0 +1,3 @@
+pub mod Waiting
+pub mod Refusing
+pub mod Staying
