@@ -1,0 +1,3 @@
+pub mod RvBack
+pub mod Made
+pub mod Steps
