@@ -1,0 +1,5 @@
+pub mod ClaimsBack
+pub mod Rows
+pub mod RvBack
+pub mod PayloadsBack
+pub mod RedirectBack
