@@ -1,10 +1,15 @@
-//! Times work, and prints JSON lines. The first argument says which work: cbor, hash or cose. Without one nothing is
-//! timed.
+//! Times work, and prints JSON lines. The first argument says which work: cbor, body, file, hash, cose or store. With `commits` it commits
+//! credentials without an end. Without an argument nothing is timed.
 #![tactic(auto)]
 
+mod bodies;
 mod cbor;
+mod commits;
 mod cose;
+mod credentials;
+mod file;
 mod hash;
+mod store;
 mod timing;
 
 use std::{env, io};
@@ -19,8 +24,12 @@ fn main(rt: HostRuntime) -> io::Result<()> {
     };
     match kind.as_str() {
         "cbor" => cbor::measure(&rt, words),
+        "body" => bodies::measure(&rt, words),
+        "file" => file::measure(&rt, words),
         "hash" => hash::measure(&rt, words),
         "cose" => cose::measure(&rt, words),
+        "store" => store::measure(&rt, words),
+        "commits" => commits::run(&rt, words),
         _ => Ok(()),
     }
 }
