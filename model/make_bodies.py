@@ -11,7 +11,8 @@ fault: the offset of
 
 An array of another length, and a map that lacks a label, have the place of their own head; a number that is not known
 (the type or the encoding of a key, the kind of a hash) has the place of that number; a byte string of a wrong length
-that of its head. Any well-formed spelling is read. Types whose bodies are not read have the place 0.
+that of its head. Any well-formed spelling is read. A type that no message has is at fault at 0. The types whose bodies
+stand on vouchers, on envelopes or on ServiceInfo have their cases in make_signed.py.
 """
 
 from make_cbor import encode, shortest
