@@ -17,6 +17,7 @@ use Rattle.cbor_core.proofs.Dets.{det_uint, det_nint, det_bytes, det_text, det_a
 use Rattle.cose_envelopes.specs.Envelope.{algorithm_in, header_of, protected_of}
 use Rattle.cose_envelopes.specs.Fault.{◌>>=◌}
 use Rattle.cose_envelopes.specs.Text.{encrypt0_structure}
+use Rattle.suite_port.specs.Sizes.{most_plain}
 
 pub is_i64 : (z : ℤ) → SFits w64 z → IsI64 z
 is_i64 (pos n) h = h.sfits
@@ -87,7 +88,7 @@ structure_short protected =
     )
 
 -- a text as short as a suite seals
-pub aad_short : (alg : ℤ) (aad protected : List ℕ) → protected ≡ protected_of alg → aad ≡ encrypt0_structure protected → length aad ≤ 16777216
+pub aad_short : (alg : ℤ) (aad protected : List ℕ) → protected ≡ protected_of alg → aad ≡ encrypt0_structure protected → length aad ≤ most_plain
 aad_short alg aad protected is e = omega (arith, ap length e, ap length is, structure_short protected, header_short alg)
 
 -- ---- as the writers answer

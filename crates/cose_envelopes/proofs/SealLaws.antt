@@ -18,6 +18,7 @@ use Rattle.cose_envelopes.specs.Places.{encrypt0_place, mac0_place}
 use Rattle.cose_envelopes.specs.Opening.{encrypt0_at, mac0_at, key_front, inner_number, mac_number, sealed_value, sealed_bytes, maced_value, sealed_etm, of_shape, opened_by, opening, opened_mac, opening_etm}
 use Rattle.cose_envelopes.specs.Text.{encrypt0_structure, mac0_structure}
 use Rattle.cose_envelopes.proofs.HeaderLaws.{aad_short}
+use Rattle.suite_port.specs.Sizes.{most_plain}
 
 -- ---- what is made can be written
 
@@ -57,10 +58,10 @@ Seals = ℤ → List ℕ → List ℕ → List ℕ → List ℕ → List ℕ
 
 -- what a suite is to say of its calls
 abbrev pub OpensSealed : (ℤ → Option ℕ) → Opens → Seals → Type 0
-OpensSealed bits opens seals = (alg : ℤ) (key iv aad plain : List ℕ) → bits alg ≡ Some (8 * length key) → length iv ≡ 12 → length aad ≤ 16777216 → length plain ≤ 16777216 → opens alg key iv aad (seals alg key iv aad plain) ≡ Some plain
+OpensSealed bits opens seals = (alg : ℤ) (key iv aad plain : List ℕ) → bits alg ≡ Some (8 * length key) → length iv ≡ 12 → length aad ≤ most_plain → length plain ≤ most_plain → opens alg key iv aad (seals alg key iv aad plain) ≡ Some plain
 
 pub read_opens : (bits : ℤ → Option ℕ) (opens : Opens) (seals : Seals) (alg : ℤ) (size : ℕ) (key iv plain bytes : List ℕ) → OpensSealed bits opens seals → bits alg ≡ Some size → (size ≡ 128) ⊎ (size ≡ 256)
-    → length key ≡ 32 → length iv ≡ 12 → length plain ≤ 16777216 → IsEncrypt0 bytes (sealed_value seals alg (key_front size key) iv plain) → opening bits opens alg key bytes ≡ Ok (iv, plain)
+    → length key ≡ 32 → length iv ≡ 12 → length plain ≤ most_plain → IsEncrypt0 bytes (sealed_value seals alg (key_front size key) iv plain) → opening bits opens alg key bytes ≡ Ok (iv, plain)
 unfolding opening
 read_opens bits opens seals alg size key iv plain bytes law known sized len iv_len small said =
     let front = key_front size key in
@@ -89,7 +90,7 @@ written_sealed seals alg key iv plain v (Ok bytes) is e = e ∙ ap (λ (w : Encr
 written_sealed seals alg key iv plain v (Err f) is e = tt
 
 pub written_opened : (bits : ℤ → Option ℕ) (opens : Opens) (seals : Seals) (alg : ℤ) (size : ℕ) (key iv plain : List ℕ) (v : Encrypt0) (r : Result (List ℕ) NoMemory) → OpensSealed bits opens seals → bits alg ≡ Some size
-    → (size ≡ 128) ⊎ (size ≡ 256) → length key ≡ 32 → length iv ≡ 12 → length plain ≤ 16777216 → v ≡ sealed_value seals alg (key_front size key) iv plain → IfOk r (λ bytes. IsEncrypt0 bytes v)
+    → (size ≡ 128) ⊎ (size ≡ 256) → length key ≡ 32 → length iv ≡ 12 → length plain ≤ most_plain → v ≡ sealed_value seals alg (key_front size key) iv plain → IfOk r (λ bytes. IsEncrypt0 bytes v)
     → IfOk r (λ bytes. opening bits opens alg key bytes ≡ Ok (iv, plain))
 written_opened bits opens seals alg size key iv plain v (Ok bytes) law known sized len iv_len small is said =
     read_opens bits opens seals alg size key iv plain bytes law known sized len iv_len small (subst (IsEncrypt0 bytes) is said)

@@ -7,6 +7,7 @@ ghost use Rattle.cose_envelopes.specs.Envelope.{IsWhole0};
 ghost use Rattle.cose_envelopes.specs.Fault.{Answers, known};
 ghost use Rattle.cose_envelopes.specs.Opening.{key_front, sealed_value, sealed_bytes, encrypt0_at, opened, opened_by, opening};
 ghost use Rattle.cose_envelopes.specs.Text.{encrypt0_structure};
+ghost use Rattle.suite_port.specs.Sizes.{most_plain};
 
 use crate::encrypt0::{Encrypt0, read_encrypt0, write_encrypt0};
 use crate::fault::CoseFault;
@@ -16,7 +17,7 @@ use cbor_core::{Blob, NoMemory};
 use std::alloc::Global;
 use suite_port::Suite;
 
-/// The written Encrypt0 of a plain text of at most 16,777,216 bytes, under the first bits of a key. Its only refusals are
+/// The written Encrypt0 of a plain text of at most `MOST_PLAIN` bytes, under the first bits of a key. Its only refusals are
 /// `NoAlgorithm(alg)`, exactly where `key_bits` gives none, and `NoMemory`.
 pub fn seal<S: Suite>(
     alloc: Global,
@@ -26,7 +27,7 @@ pub fn seal<S: Suite>(
     iv: &[u8; 12],
     plain: &[u8],
 ) -> Result<Blob, CoseFault>
-    requires { length plain.now ≤ 16777216 }
+    requires { length plain.now ≤ most_plain }
     // The envelope, or that the suite has no such algorithm.
     ensures answer { Answers (known alg (option_map (λ bits. sealed_bytes S.Aead.seals alg (key_front bits key.now) iv.now plain.now) (S.Aead.bits alg))) result }
     // It is opened under the same key.
@@ -57,7 +58,7 @@ pub(crate) fn seal_with<S: Suite>(
 ) -> Result<Blob, NoMemory>
     requires size { (bits ≡ 128) ⊎ (bits ≡ 256) }
     requires bits { S.Aead.bits alg ≡ Some bits }
-    requires plain { length plain.now ≤ 16777216 }
+    requires plain { length plain.now ≤ most_plain }
     ensures sealed { IfOk result (λ bytes. bytes ≡ sealed_bytes S.Aead.seals alg (key_front bits key.now) iv.now plain.now) }
     ensures opened { IfOk result (λ bytes. opening S.Aead.bits S.Aead.opens alg key.now bytes ≡ Ok (iv.now, plain.now)) }
     ensures held { S.Holder.held suite.new ≡ S.Holder.held suite.old }
@@ -80,7 +81,7 @@ fn seal_value<S: Suite>(
 ) -> Result<Encrypt0, NoMemory>
     requires size { (bits ≡ 128) ⊎ (bits ≡ 256) }
     requires bits { S.Aead.bits alg ≡ Some bits }
-    requires plain { length plain.now ≤ 16777216 }
+    requires plain { length plain.now ≤ most_plain }
     ensures value { IfOk result (λ value. value ≡ sealed_value S.Aead.seals alg (key_front bits key.now) iv.now plain.now) }
     ensures whole { IfOk result IsWhole0 }
     ensures held { S.Holder.held suite.new ≡ S.Holder.held suite.old }

@@ -8,6 +8,7 @@ ghost use Rattle.cose_envelopes.specs.Envelope.{item_of_mac0, IsWholeMac};
 ghost use Rattle.cose_envelopes.specs.Fault.{Answers, known};
 ghost use Rattle.cose_envelopes.specs.Opening.{inner_number, maced_value, mac0_at, sealed_bytes, sealed_etm, opening, opening_etm, opened_mac, or_not_opened};
 ghost use Rattle.cose_envelopes.specs.Text.{mac0_structure};
+ghost use Rattle.suite_port.specs.Sizes.{most_plain};
 
 use crate::fault::CoseFault;
 use crate::mac0::{Mac0, read_mac0, write_mac0};
@@ -23,7 +24,7 @@ use suite_port::Suite;
 const INNER: i64 = -65_538;
 
 /// Encrypt-then-MAC, with the number -65539: the written Mac0, under the last 16 bytes of a key, over the Encrypt0 of a
-/// plain text of at most 16,777,216 bytes under the first 16. It is refused as `seal` is.
+/// plain text of at most `MOST_PLAIN` bytes under the first 16. It is refused as `seal` is.
 pub fn seal_etm<S: Suite>(
     alloc: Global,
     suite: &mut S,
@@ -33,7 +34,7 @@ pub fn seal_etm<S: Suite>(
     plain: &[u8],
 ) -> Result<Blob, CoseFault>
     requires alg { alg ≡ negsuc 65538 }
-    requires plain { length plain.now ≤ 16777216 }
+    requires plain { length plain.now ≤ most_plain }
     ensures answer { Answers (known alg (option_map (λ bits. sealed_etm S.Aead.seals key.now iv.now plain.now) (S.Aead.bits alg))) result }
     // It is opened under the same key.
     ensures opened { IfOk result (λ bytes. opening_etm S.Aead.bits S.Aead.opens alg key.now bytes ≡ Ok (iv.now, plain.now)) }
@@ -61,7 +62,7 @@ fn seal_both<S: Suite>(
     plain: &[u8],
 ) -> Result<Blob, NoMemory>
     requires bits { S.Aead.bits (negsuc 65538) ≡ Some bits }
-    requires plain { length plain.now ≤ 16777216 }
+    requires plain { length plain.now ≤ most_plain }
     ensures sealed { IfOk result (λ bytes. bytes ≡ sealed_etm S.Aead.seals key.now iv.now plain.now) }
     ensures opened { IfOk result (λ bytes. opening_etm S.Aead.bits S.Aead.opens (negsuc 65538) key.now bytes ≡ Ok (iv.now, plain.now)) }
     ensures held { S.Holder.held suite.new ≡ S.Holder.held suite.old }

@@ -33,7 +33,7 @@ abbrev pub disk_opened : {D : Type 0} → Result (StoreView D) (D × OpenFault) 
 disk_opened (Ok s) = s.disk
 disk_opened (Err e) = e.0
 
--- a reader answers what bytes stand for, or the place of their first fault, want of memory aside
+-- a reader answers what bytes stand for, or the place of their first fault, out of memory aside
 abbrev pub Reads : {A : Type 0} → Result A ℕ → Result A ImageFault → Type 0
 Reads told (Ok value) = told ≡ Ok value
 Reads told (Err (image.Foreign place)) = told ≡ Err place

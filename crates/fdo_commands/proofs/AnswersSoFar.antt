@@ -8,7 +8,7 @@ use Rattle.std.proofs.Math.Seq.{drop-cons, take-append-add, take-suc}
 use Rattle.port_base.specs.Told.{grown}
 use Rattle.fdo_ports.proofs.Grown.{grown_nothing, grown_twice}
 use Rattle.fdo_msgs.specs.Run.{Runs}
-use Rattle.fdo_msgs.proofs.RunMore.{runs_more}
+use Rattle.fdo_msgs.proofs.LongerRuns.{runs_more}
 use Rattle.fdo_msgs.specs.declared.answer.Answer.{Answer}
 use Rattle.fdo_msgs.specs.declared.cause.Object.{Object}
 use Rattle.fdo_msgs.specs.declared.packet.Packet.{Packet}

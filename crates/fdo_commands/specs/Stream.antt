@@ -6,10 +6,11 @@ use Rattle.port_base.specs.Count.{Rises}
 use Rattle.fdo_ports.specs.Told.{IsAtEnd, before}
 use Rattle.fdo_commands.specs.declared.input.InputFault.{InputFault}
 use Rattle.fdo_commands.specs.declared.input.InputFault.TheVariants as faults
+use Rattle.suite_port.specs.Sizes.{most_plain}
 
--- the most bytes of an input
+-- the most bytes of an input: as many as a text has that is sealed
 abbrev pub most_bytes : ℕ
-most_bytes = 16777216
+most_bytes = most_plain
 
 -- the bytes were read from the front of what was left
 abbrev pub Took : Option (List ℕ) → Option (List ℕ) → List ℕ → Type 0

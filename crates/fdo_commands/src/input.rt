@@ -4,9 +4,10 @@ ghost use Rattle.fdo_commands.specs.Stream.{ReadsInput, InputCounts};
 
 use fdo_ports::Source;
 use std::alloc::Global;
+use suite_port::MOST_PLAIN;
 
-/// The most bytes that the input of a command has.
-pub const MOST_INPUT_BYTES: usize = 16_777_216;
+/// The most bytes that the input of a command has: as many as a text has that is sealed.
+pub const MOST_INPUT_BYTES: usize = MOST_PLAIN;
 
 /// Why the input is not read to its end.
 #[derive(Clone, Copy, Debug, PartialEq, Eq)]

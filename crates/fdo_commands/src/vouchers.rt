@@ -11,6 +11,7 @@ ghost use Rattle.voucher_chain.specs.Chain.{checkings, first_break};
 ghost use Rattle.voucher_chain.specs.declared.fault.ChainFault.TheVariants.{NoMemory as OutOfMemory};
 ghost use Rattle.voucher_tool.specs.Check.{check_told};
 ghost use Rattle.voucher_tool.specs.Show.{show_text};
+ghost use Rattle.voucher_chain.specs.Reading.{most_entries};
 
 use crate::input::read_input;
 use crate::status::Status;
@@ -106,7 +107,7 @@ fn check_bytes<S: Suite>(alloc: Global, suite: &mut S, bytes: &[u8]) -> Result<T
 }
 
 fn checked<S: Suite>(alloc: Global, suite: &mut S, voucher: &Voucher) -> Result<Told, NoMemory>
-    requires { length voucher.now.entries ≤ 255 }
+    requires { length voucher.now.entries ≤ most_entries }
     ensures told { IfOk result (λ what. what ≡ told_as (check_told S.Verifier.verifies voucher.now)) }
     ensures asked { MatchResult result
         (λ _. S.Holder.asked suite.new ≡ grown (S.Holder.asked suite.old) (asks_until voucher.now (first_break S.Verifier.verifies voucher.now)))

@@ -1,6 +1,6 @@
 pub mod Cuts
 pub mod Numbers
-pub mod RunMore
+pub mod LongerRuns
 pub mod PairLaws
 pub mod RowSteps
 pub mod KindLaws

@@ -13,7 +13,7 @@ use Rattle.fdo_msgs.specs.Body.{msg_seen, msg_place, is_kind}
 unfoldable pub body_at : ℕ → List ℕ → Result Msg ℕ
 body_at kind bytes = if is_kind kind then seen_at (msg_seen kind) (msg_place kind) bytes else Err 0
 
--- what a reader answers is what the bytes say, want of memory aside
+-- what a reader answers is what the bytes say, out of memory aside
 abbrev pub ReadsBody : Result Msg ℕ → Result Msg BodyFault → Type 0
 ReadsBody said (Ok msg) = said ≡ Ok msg
 ReadsBody said (Err (faults.Body place)) = said ≡ Err place

@@ -23,7 +23,7 @@ pub trait Handler {
     /// From a state the role answers a message so, and is then in the next state.
     ghost Steps: { State → Packet → Answer → State → Type 0 };
 
-    /// What want of memory at a message leaves of a state.
+    /// What running out of memory at a message leaves of a state.
     ghost GivesUp: { State → Packet → State → Type 0 };
 
     /// The role's one step on a message.

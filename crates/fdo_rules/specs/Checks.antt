@@ -13,6 +13,8 @@ use Rattle.fdo_msgs.specs.declared.cause.Cause.{Cause}
 use Rattle.fdo_msgs.specs.declared.cause.Cause.TheVariants as cause
 use Rattle.fdo_msgs.specs.declared.msg.Msg.{Msg}
 use Rattle.fdo_msgs.specs.declared.msg.Msg.TheVariants as msg
+use Rattle.suite_port.specs.Sizes.{most_plain}
+use Rattle.service_info.specs.Size.{most_size}
 
 infixl 10 ◌>>=◌
 abbrev pub ◌>>=◌ : {A B : Type 0} → Result A Cause → (A → Result B Cause) → Result B Cause
@@ -77,13 +79,10 @@ is_hash_of hash text = is_true (hash_told hash text)
 
 -- the most bytes that a peer takes in a message, where 0 says no bound of its own
 abbrev pub most_of : ℕ → ℕ
-most_of size = if size == 0 then 65535 else size
+most_of size = if size == 0 then most_size else size
 
 abbrev pub fits_peer : ℕ → List ℕ → Result (Unit {0}) Cause
 fits_peer size body = wants (nat_le (length body) (most_of size)) (cause.Size (most_of size))
-
-abbrev pub most_plain : ℕ
-most_plain = 16777216
 
 abbrev pub fits_plain : List ℕ → Result (Unit {0}) Cause
 fits_plain plain = wants (nat_le (length plain) most_plain) (cause.Size most_plain)

@@ -1,6 +1,7 @@
 -- What a suite of algorithms means, as functions of the arguments of its calls, and its laws.
 use Rattle.std.specs.Prelude.{◌≡◌, ℕ, ◌*◌, ◌≤◌, ℤ, negsuc, List, length, Bool, true, Option, Some, IsSome}
 use Rattle.voucher_chain.specs.Chain.{Verifies}
+use Rattle.suite_port.specs.Sizes.{most_plain}
 
 -- keys and certificates are by their bytes; None where the suite has no algorithm
 pub record Suite : Type 0 where
@@ -35,7 +36,7 @@ EndsAgree suite = (name one other xb shared : List ℕ) → suite.agrees name �
     suite.second name other (suite.first name one).0 ≡ Some (xb, shared) → suite.finish name (suite.first name one).1 xb ≡ Some shared
 
 abbrev pub OpensSealed : Suite → Type 0
-OpensSealed suite = (alg : ℤ) (key iv aad plain : List ℕ) → suite.bits alg ≡ Some (8 * length key) → length iv ≡ 12 → length aad ≤ 16777216 → length plain ≤ 16777216 →
+OpensSealed suite = (alg : ℤ) (key iv aad plain : List ℕ) → suite.bits alg ≡ Some (8 * length key) → length iv ≡ 12 → length aad ≤ most_plain → length plain ≤ most_plain →
     suite.opens alg key iv aad (suite.seals alg key iv aad plain) ≡ Some plain
 
 -- the number of encrypt-then-MAC comes with that of its inner sealing

@@ -1,11 +1,12 @@
 ghost use Rattle.std.specs.Prelude.{◌≤◌, length};
+ghost use Rattle.suite_port.specs.Sizes.{most_plain};
 
 use crate::timing::{report, report_thousandths, since};
 use cbor_core::{Blob, Pairs};
 use cose_envelopes::{open, read_encrypt0, read_sign1, seal, sign, write_sign1};
 use std::io;
 use std::time::Instant;
-use suite_port::{LabSuite, Signer};
+use suite_port::{LabSuite, MOST_PLAIN, Signer};
 
 const SEALING: i64 = -65538;
 
@@ -26,7 +27,7 @@ pub fn measure(rt: &HostRuntime, words: &[String]) -> io::Result<()> {
 }
 
 fn time_all(rt: &HostRuntime, text: &[u8]) -> io::Result<()> {
-    if text.len() <= 16_777_216 {
+    if text.len() <= MOST_PLAIN {
         time_sealing(rt, text)?;
         time_encrypt0(rt, text)?;
     }
@@ -35,7 +36,7 @@ fn time_all(rt: &HostRuntime, text: &[u8]) -> io::Result<()> {
 
 /// Sealing a text and opening it, the least of eight calls each.
 fn time_sealing(rt: &HostRuntime, text: &[u8]) -> io::Result<()>
-    requires { length text.now ≤ 16777216 }
+    requires { length text.now ≤ most_plain }
 {
     let mut suite = LabSuite::new(Vec::new(rt.alloc()));
     let Ok(bytes) = seal(rt.alloc(), &mut suite, SEALING, &KEY, &IV, text) else {
@@ -63,7 +64,7 @@ fn time_sealing(rt: &HostRuntime, text: &[u8]) -> io::Result<()>
 
 /// Reading an Encrypt0 of a text, the least of eight times a hundred calls.
 fn time_encrypt0(rt: &HostRuntime, text: &[u8]) -> io::Result<()>
-    requires { length text.now ≤ 16777216 }
+    requires { length text.now ≤ most_plain }
 {
     let mut suite = LabSuite::new(Vec::new(rt.alloc()));
     let Ok(bytes) = seal(rt.alloc(), &mut suite, SEALING, &KEY, &IV, text) else {

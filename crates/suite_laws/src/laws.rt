@@ -3,6 +3,7 @@ ghost use Rattle.suite_port.specs.Answer.{Answers, Decides, Counts, maybe_bytes_
 ghost use Rattle.suite_port.specs.Asked.Ask.{Signed as SignedAsk, Verified as VerifiedAsk};
 ghost use Rattle.port_base.specs.Told.{grown};
 ghost use Rattle.suite_port.specs.declared.fault.SuiteFault.TheVariants.{Failed, NoAlgorithm};
+ghost use Rattle.suite_port.specs.Sizes.{most_plain};
 
 use std::alloc::Global;
 use suite_port::{Suite, SuiteFault};
@@ -117,8 +118,8 @@ pub fn seal_and_open<S: Suite>(
     plain: &[u8],
 ) -> Result<Option<Vec<u8>>, SuiteFault>
     requires key { S.Aead.bits alg ≡ Some (8 * length key.now) }
-    requires aad { length aad.now ≤ 16777216 }
-    requires plain { length plain.now ≤ 16777216 }
+    requires aad { length aad.now ≤ most_plain }
+    requires plain { length plain.now ≤ most_plain }
     ensures { Answers maybe_bytes_of (Some (Some plain.now)) result }
 {
     match suite.seal(alloc, alg, key, iv, aad, plain) {

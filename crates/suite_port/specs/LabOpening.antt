@@ -11,6 +11,7 @@ use Rattle.sha2.specs.Sha256.{sha256}
 use Rattle.sha2.proofs.Facts256.{length-sha256}
 use Rattle.suite_port.specs.Answer.{only_if}
 use Rattle.suite_port.specs.LabSeal.{lab_bits, in_eight_bytes, stream, masked, lab_combined, lab_tag, lab_seals, lab_opens}
+use Rattle.suite_port.specs.Sizes.{most_plain}
 
 xor_twice : (byte mask : ℕ) → bit_xor (bit_xor byte mask) mask ≡ byte
 xor_twice byte mask = xor_assoc byte mask mask ∙ ap (bit_xor byte) (xor_self mask) ∙ xor_zero_r byte
@@ -41,7 +42,7 @@ with_tag alg key iv aad text =
     ∙ ap (λ b. only_if (nat_le 16 (length all) && b) (lab_combined key iv text)) ((bytes_eq-Decides tag tag).1 refl)
     ∙ ap (λ b. only_if (b && true) (lab_combined key iv text)) enough
 
-pub lab_opens_sealed : (alg : ℤ) (key iv aad plain : List ℕ) → lab_bits alg ≡ Some (8 * length key) → length iv ≡ 12 → length aad ≤ 16777216 → length plain ≤ 16777216 → lab_opens alg key iv aad (lab_seals alg key iv aad plain) ≡ Some plain
+pub lab_opens_sealed : (alg : ℤ) (key iv aad plain : List ℕ) → lab_bits alg ≡ Some (8 * length key) → length iv ≡ 12 → length aad ≤ most_plain → length plain ≤ most_plain → lab_opens alg key iv aad (lab_seals alg key iv aad plain) ≡ Some plain
 lab_opens_sealed alg key iv aad plain bits iv_size aad_size plain_size =
     with_tag alg key iv aad (lab_combined key iv plain) ∙ ap Some (masked_twice (stream key iv) 0 plain)
 

@@ -1,4 +1,5 @@
 pub mod Answer
+pub mod Sizes
 pub mod Held
 pub mod LabKey
 pub mod LabCertificate

@@ -2,10 +2,14 @@ ghost use Rattle.std.specs.Prelude.{◌≡◌, ◌⊎◌, ◌≤◌, ◌*◌, �
 ghost use Rattle.suite_port.specs.Answer.{Answers, bytes_of, maybe_bytes_of};
 ghost use Rattle.suite_port.specs.Asked.{Asks};
 ghost use Rattle.suite_port.specs.Asked.Ask.{Sealed, Opened};
+ghost use Rattle.suite_port.specs.Sizes.{most_plain};
 
 use crate::fault::SuiteFault;
 use crate::holder::Holder;
 use std::alloc::Global;
+
+/// The most bytes of a plain text that is sealed, and of the additional data beside it.
+pub const MOST_PLAIN: usize = 16_777_216;
 
 /// Seals texts and opens them (authenticated encryption with additional data, RFC 5116).
 pub trait Aead: Holder {
@@ -26,7 +30,7 @@ pub trait Aead: Holder {
         ensures size { IfSome result (λ size. (size ≡ 128) ⊎ (size ≡ 256)) };
 
     /// The sealed text of `plain`. The key has the bits of the algorithm; the plain text and the additional data have
-    /// at most 16,777,216 bytes each. It fails only for want of memory.
+    /// at most `MOST_PLAIN` bytes each. It fails only for want of memory.
     fn seal(
         &mut self,
         alloc: Global,
@@ -37,8 +41,8 @@ pub trait Aead: Holder {
         plain: &[u8],
     ) -> Result<Vec<u8>, SuiteFault>
         requires key { bits alg ≡ Some (8 * length key.now) }
-        requires aad { length aad.now ≤ 16777216 }
-        requires plain { length plain.now ≤ 16777216 }
+        requires aad { length aad.now ≤ most_plain }
+        requires plain { length plain.now ≤ most_plain }
         ensures answer { Answers bytes_of (Some (seals alg key.now iv.now aad.now plain.now)) result }
         ensures held { Self.held self.new ≡ Self.held self.old }
         ensures faults { Self.faults self.new ≡ Self.faults self.old }
@@ -62,7 +66,7 @@ pub trait Aead: Holder {
         ensures asked { Asks (Self.asked self.old) (Self.asked self.new) (Opened alg key.now iv.now aad.now sealed.now) result };
 
     /// What was sealed is opened under the same key, IV and additional data.
-    ghost opens_sealed: { (alg : ℤ) (key iv aad plain : List ℕ) → bits alg ≡ Some (8 * length key) → length iv ≡ 12 → length aad ≤ 16777216 → length plain ≤ 16777216 → opens alg key iv aad (seals alg key iv aad plain) ≡ Some plain };
+    ghost opens_sealed: { (alg : ℤ) (key iv aad plain : List ℕ) → bits alg ≡ Some (8 * length key) → length iv ≡ 12 → length aad ≤ most_plain → length plain ≤ most_plain → opens alg key iv aad (seals alg key iv aad plain) ≡ Some plain };
 
     /// The algorithm of two keys, -65539: where the suite has it, it has 256 bits, and -65538 has 128.
     ghost two_keys: { (size : ℕ) → bits (negsuc 65538) ≡ Some size → (size ≡ 256) × (bits (negsuc 65537) ≡ Some 128) };

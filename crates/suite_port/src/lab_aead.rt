@@ -2,6 +2,7 @@ ghost use Rattle.std.specs.Prelude.{◌≡◌, ◌≤◌, ◌*◌, ◌⊎◌, �
 ghost use Rattle.suite_port.specs.Answer.{Answers, bytes_of, maybe_bytes_of};
 ghost use Rattle.suite_port.specs.LabOpening.{lab_opens_sealed, lab_two_keys};
 ghost use Rattle.suite_port.specs.LabSeal.{lab_bits, lab_seals, lab_opens};
+ghost use Rattle.suite_port.specs.Sizes.{most_plain};
 
 use crate::aead::Aead;
 use crate::fault::SuiteFault;
@@ -43,8 +44,8 @@ impl Aead for LabSuite {
         plain: &[u8],
     ) -> Result<Vec<u8>, SuiteFault>
         requires key { lab_bits _alg ≡ Some (8 * length key.now) }
-        requires aad { length aad.now ≤ 16777216 }
-        requires plain { length plain.now ≤ 16777216 }
+        requires aad { length aad.now ≤ most_plain }
+        requires plain { length plain.now ≤ most_plain }
         ensures answer { Answers bytes_of (Some (lab_seals _alg key.now iv.now aad.now plain.now)) result }
         ensures same { self.new ≡ self.old }
     {

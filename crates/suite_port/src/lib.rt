@@ -18,7 +18,7 @@ pub mod signer;
 pub mod suite;
 pub mod verifier;
 
-pub use aead::Aead;
+pub use aead::{Aead, MOST_PLAIN};
 pub use cert_reader::CertReader;
 pub use fault::SuiteFault;
 pub use holder::Holder;

@@ -10,7 +10,7 @@ use Rattle.voucher_chain.specs.declared.fault.ChainFault.{ChainFault}
 use Rattle.voucher_chain.specs.declared.fault.ChainFault.TheVariants as fault
 use Rattle.voucher_chain.specs.declared.voucher.Voucher.{Voucher}
 use Rattle.voucher_chain.specs.Fault.{Reads, Answers}
-use Rattle.voucher_chain.specs.Reading.{bounded, voucher_at, IsVoucher}
+use Rattle.voucher_chain.specs.Reading.{bounded, voucher_at, IsVoucher, most_entries}
 use Rattle.voucher_chain.specs.Voucher.{voucher_seen, voucher_place}
 
 pub reads_found : {A : Type 0} (seen : Spot → Option A) (place : Spot → ℕ) (bytes : List ℕ) (r : Result A ChainFault) → IsBytes bytes → Reads (seen_at seen place bytes) r → IfOk r (Shows seen bytes)
@@ -32,13 +32,13 @@ abbrev few_or : Bool → Voucher → Result Voucher ChainFault
 few_or b v = if b then Ok v else Err fault.TooLong
 
 -- a voucher that is not refused was read, and has few entries
-bounded_found : (read : Result Voucher ℕ) (v : Voucher) → bounded read ≡ Ok v → (read ≡ Ok v) × (length v.entries ≤ 255)
-bounded_found (Ok w) v e = go (nat_le (length w.entries) 255) refl e
+bounded_found : (read : Result Voucher ℕ) (v : Voucher) → bounded read ≡ Ok v → (read ≡ Ok v) × (length v.entries ≤ most_entries)
+bounded_found (Ok w) v e = go (nat_le (length w.entries) most_entries) refl e
   where
-    go : (b : Bool) → nat_le (length w.entries) 255 ≡ b → few_or b w ≡ ok_voucher v → (read_ok w ≡ read_ok v) × (length v.entries ≤ 255)
+    go : (b : Bool) → nat_le (length w.entries) most_entries ≡ b → few_or b w ≡ ok_voucher v → (read_ok w ≡ read_ok v) × (length v.entries ≤ most_entries)
     go true few e =
         let same : w ≡ v = cc e in
-        (ap read_ok same, subst (λ (u : Voucher). length u.entries ≤ 255) same (leb-true (length w.entries) 255 few))
+        (ap read_ok same, subst (λ (u : Voucher). length u.entries ≤ most_entries) same (leb-true (length w.entries) most_entries few))
     go false few e = absurd (cc e)
 bounded_found (Err place) v e = absurd (cc e)
 
@@ -49,7 +49,7 @@ voucher_found bytes (Ok v) fits e =
 voucher_found bytes (Err f) fits e = tt
 
 voucher_again : (bytes : List ℕ) (v : Voucher) → IsVoucher bytes v → voucher_at bytes ≡ Ok v
-voucher_again bytes v h = ap bounded (shows_again voucher_seen voucher_place bytes v h.shown) ∙ (rw (le-leb (length v.entries) 255 h.few) refl)
+voucher_again bytes v h = ap bounded (shows_again voucher_seen voucher_place bytes v h.shown) ∙ (rw (le-leb (length v.entries) most_entries h.few) refl)
 
 pub voucher_only : (bytes : List ℕ) (r : Result Voucher ChainFault) → Answers (voucher_at bytes) r → (v : Voucher) → IsVoucher bytes v → Answers (Ok v) r
 voucher_only bytes r e v h = subst (λ (told : Result Voucher ChainFault). Answers told r) (voucher_again bytes v h) e

@@ -40,7 +40,7 @@ use Rattle.voucher_chain.specs.Fault.{◌>>=◌, all_in, value_in}
 use Rattle.voucher_chain.specs.Header.{is_version, header_seen, header_place, header_at}
 use Rattle.voucher_chain.specs.Chain.{Verifies}
 use Rattle.voucher_chain.specs.Extended.{AreSized, IsExtended, IsReadBack}
-use Rattle.voucher_chain.specs.Reading.{IsVoucher}
+use Rattle.voucher_chain.specs.Reading.{IsVoucher, most_entries}
 use Rattle.voucher_chain.specs.Voucher.{voucher_seen, mac_in, header_inside, certificates_in, entries_inside, entry_inside, item_of_certificates, voucher_bytes, voucher_with}
 use Rattle.voucher_chain.proofs.BackLaws.{norm_null, sign_spelled, new_says}
 use Rattle.voucher_chain.proofs.Places.{bytes_front, bytes_back, bytes_join, Good, parts_good, entry_by, entry_shallow, inside_by, sign_shallow, Placed, placed_is, placed_good, Texts, items_of, texts, AreSpelled, ArePlaced, array_text, array_spelled, array_parts}
@@ -338,7 +338,7 @@ version_item = det_spelled 15 (items.Uint 101) (head 0 101) (fit_uint 14 101 (li
 bytes_item : (b : List ℕ) → length b < 2 ^ 64 → SpellsWithin false 15 (items.Bytes b) (head 2 (length b) ++ b)
 bytes_item b small = det_spelled 15 (items.Bytes b) (head 2 (length b) ++ b) (fit_bytes 14 b small) (norm_bytes b) (ap det (sym (items.rolls-Bytes b)) ∙ det_bytes b)
 
-module _ (v : Voucher) (es : List Entry) (p : Parts v es) (few : length es ≤ 255) (longer : List ℕ) (all : longer ≡ voucher_bytes v.header.raw v.hmac_raw v.chain es) (small : length longer < 2 ^ 64) (fits : IsBytes longer) where
+module _ (v : Voucher) (es : List Entry) (p : Parts v es) (few : length es ≤ most_entries) (longer : List ℕ) (all : longer ≡ voucher_bytes v.header.raw v.hmac_raw v.chain es) (small : length longer < 2 ^ 64) (fits : IsBytes longer) where
   abbrev hd : List ℕ
   hd = head 2 (length v.header.raw)
 
@@ -406,7 +406,7 @@ pub record Both (bytes : List ℕ) (v : Voucher) (e : Entry) (longer : List ℕ)
   pub read : IsVoucher bytes v
   pub old_small : length bytes < 2 ^ 64
   pub old_fits : IsBytes bytes
-  pub few : length v.entries < 255
+  pub few : length v.entries < most_entries
   pub raw : e.raw ≡ det (item_of_sign1 e.sign)
   pub unprotected : e.sign.unprotected ≡ []
   pub back : IsEntry e.raw e

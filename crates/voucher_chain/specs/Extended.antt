@@ -20,7 +20,7 @@ use Rattle.voucher_chain.specs.declared.entry.Entry.{Entry}
 use Rattle.voucher_chain.specs.declared.voucher.Voucher.{Voucher}
 use Rattle.voucher_chain.specs.Chain.{Verifies, Follows, front, last_bytes, last_key}
 use Rattle.voucher_chain.specs.Entry.{item_of_payload, IsEntry}
-use Rattle.voucher_chain.specs.Reading.{IsInMemory, IsVoucher}
+use Rattle.voucher_chain.specs.Reading.{IsInMemory, IsVoucher, most_entries}
 use Rattle.voucher_chain.specs.Voucher.{voucher_with}
 
 -- ---- strength
@@ -76,14 +76,14 @@ IsSignedWith told entries longer = (entry : Entry) × (longer.entries ≡ entrie
 -- ---- bytes in memory
 
 pub record AreSized (v longer : Voucher) : Type 0 where
-  pub few : length v.entries < 255
+  pub few : length v.entries < most_entries
   pub old : IsInMemory v.raw
   pub new : IsInMemory longer.raw
 
 -- ---- refusals
 
 -- NoAlgorithm with the number of entries exactly where the last owner's key has none, and else nothing but a failure or
--- want of memory, which may also come first
+-- running out of memory, which may also come first
 abbrev pub RefusesNext : {A : Type 0} → Option ℤ → ℕ → Result A ChainFault → Type 0
 RefusesNext told index (Ok value) = IsSome told
 RefusesNext told index (Err (fault.NoAlgorithm number)) = (told ≡ None) × (number ≡ index)
@@ -91,13 +91,13 @@ RefusesNext told index (Err fault.Failed) = IsSome told
 RefusesNext told index (Err fault.NoMemory) = Unit {0}
 RefusesNext told index (Err f) = ⊥
 
--- too long comes first, exactly at 255 entries
+-- too long comes first, exactly where there are as many entries as may be
 abbrev pub RefusesBelow : {A : Type 0} → Bool → Option ℤ → ℕ → Result A ChainFault → Type 0
 RefusesBelow false told count result = result ≡ Err fault.TooLong
 RefusesBelow true told count result = RefusesNext told count result
 
 abbrev pub Refuses : {A : Type 0} → Option ℤ → ℕ → Result A ChainFault → Type 0
-Refuses told count result = RefusesBelow (nat_lt count 255) told count result
+Refuses told count result = RefusesBelow (nat_lt count most_entries) told count result
 
 -- the suite's count of faults rose exactly where the call failed
 abbrev pub Counts : {A : Type 0} → ℕ → ℕ → Result A ChainFault → Type 0

@@ -42,14 +42,14 @@ abbrev pub IsShape : CborFault → ChainFault → Type 0
 IsShape cbor.NoMemory found = found ≡ fault.NoMemory
 IsShape f found = found ≡ fault.BadShape (place_of f)
 
--- a reader answers what the bytes say, or the place of their first fault, want of memory aside
+-- a reader answers what the bytes say, or the place of their first fault, out of memory aside
 abbrev pub Reads : {A : Type 0} → Result A ℕ → Result A ChainFault → Type 0
 Reads said (Ok value) = said ≡ Ok value
 Reads said (Err (fault.BadShape place)) = said ≡ Err place
 Reads said (Err fault.NoMemory) = Unit {0}
 Reads said (Err f) = ⊥
 
--- a call answers what is told, want of memory aside
+-- a call answers what is told, out of memory aside
 abbrev pub Fails : {A : Type 0} → Result A ChainFault → ChainFault → Type 0
 Fails told fault.NoMemory = Unit {0}
 Fails told f = told ≡ Err f

@@ -6,9 +6,12 @@ use Rattle.voucher_chain.specs.declared.fault.ChainFault.TheVariants as fault
 use Rattle.voucher_chain.specs.declared.voucher.Voucher.{Voucher}
 use Rattle.voucher_chain.specs.Voucher.{voucher_seen, voucher_place}
 
--- at most 255 entries
+-- the most entries of a voucher
+abbrev pub most_entries : ℕ
+most_entries = 255
+
 abbrev pub bounded : Result Voucher ℕ → Result Voucher ChainFault
-bounded (Ok voucher) = if nat_le (length voucher.entries) 255 then Ok voucher else Err fault.TooLong
+bounded (Ok voucher) = if nat_le (length voucher.entries) most_entries then Ok voucher else Err fault.TooLong
 bounded (Err place) = Err (fault.BadShape place)
 
 -- the voucher that bytes spell, to their end; the first fault of the form comes before the number of entries
@@ -17,7 +20,7 @@ voucher_at bytes = bounded (seen_at voucher_seen voucher_place bytes)
 
 pub record IsVoucher (bytes : List ℕ) (voucher : Voucher) : Type 0 where
   pub shown : Shows voucher_seen bytes voucher
-  pub few : length voucher.entries ≤ 255
+  pub few : length voucher.entries ≤ most_entries
 
 -- bytes in memory: fewer than 2 ^ 64, each below 256
 pub record IsInMemory (bytes : List ℕ) : Type 0 where

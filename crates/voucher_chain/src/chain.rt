@@ -8,6 +8,7 @@ ghost use Rattle.voucher_chain.specs.declared.fault.ChainFault.TheVariants.{BadC
 ghost use Rattle.voucher_chain.specs.Broken.{BreaksEntry, IsFirstBreak};
 ghost use Rattle.voucher_chain.specs.Chain.{AsksToCheck, AsksToCheckAll, Chain, Follows, checked, certificates_break, entry_break, first_break, front, hash_break, last_key, links_break, signature_break, signature_told};
 ghost use Rattle.voucher_chain.specs.Fault.{Answers, or_else};
+ghost use Rattle.voucher_chain.specs.Reading.{most_entries};
 
 use crate::entry::Entry;
 use crate::fault::ChainFault;
@@ -47,7 +48,7 @@ pub fn check_entry<S: Suite>(
     ensures found { IfOk result (λ _. Follows S.Verifier.verifies header.now (prev_first.now ++ prev_second.now) signer.now entry.now) }
     // An entry that does is Ok, unless memory runs out.
     ensures only { Follows S.Verifier.verifies header.now (prev_first.now ++ prev_second.now) signer.now entry.now → Answers (Ok tt) result }
-    // An error is want of memory, or names the first part of the entry that does not hold.
+    // An error is `NoMemory`, or names the first part of the entry that does not hold.
     ensures broken { IfErr result (λ f. (f ≡ OutOfMemory) ⊎ BreaksEntry S.Verifier.verifies header.now index (prev_first.now ++ prev_second.now) signer.now entry.now f) }
     // The first part that does not hold is the error, unless memory runs out.
     ensures only_broken { (f : ChainFault) → BreaksEntry S.Verifier.verifies header.now index (prev_first.now ++ prev_second.now) signer.now entry.now f → Answers (Err f) result }
@@ -172,12 +173,12 @@ pub fn check_chain<S: Suite>(
     suite: &mut S,
     voucher: &Voucher,
 ) -> Result<(), ChainFault>
-    requires { length voucher.now.entries ≤ 255 }
+    requires { length voucher.now.entries ≤ most_entries }
     // Ok says that the chain holds, with some owners' keys.
     ensures found { IfOk result (λ _. (keys : List PublicKey) × Chain S.Verifier.verifies voucher.now keys) }
     // A chain that holds is Ok, unless memory runs out.
     ensures only { (keys : List PublicKey) → Chain S.Verifier.verifies voucher.now keys → Answers (Ok tt) result }
-    // An error is want of memory, or names the first break.
+    // An error is `NoMemory`, or names the first break.
     ensures broken { IfErr result (λ f. (f ≡ OutOfMemory) ⊎ IsFirstBreak S.Verifier.verifies voucher.now f) }
     // The first break is the error, unless memory runs out.
     ensures only_broken { (f : ChainFault) → IsFirstBreak S.Verifier.verifies voucher.now f → Answers (Err f) result }
@@ -193,7 +194,7 @@ pub fn check_chain<S: Suite>(
 
 #[tactic(auto, unfolding(crate::specs::Chain::first_break), using(crate::proofs::AskLaws::unasked_chain))]
 fn check_all<S: Suite>(alloc: Global, suite: &mut S, voucher: &Voucher) -> Result<(), ChainFault>
-    requires { length voucher.now.entries ≤ 255 }
+    requires { length voucher.now.entries ≤ most_entries }
     ensures answer { Answers (checked (first_break S.Verifier.verifies voucher.now)) result }
     ensures held { S.Holder.held suite.new ≡ S.Holder.held suite.old }
     ensures faults { S.Holder.faults suite.new ≡ S.Holder.faults suite.old }
@@ -243,7 +244,7 @@ fn check_entries<S: Suite>(
     suite: &mut S,
     voucher: &Voucher,
 ) -> Result<(), ChainFault>
-    requires { length voucher.now.entries ≤ 255 }
+    requires { length voucher.now.entries ≤ most_entries }
     ensures answer { Answers (checked (links_break S.Verifier.verifies voucher.now.header 0 (front voucher.now) voucher.now.header.key voucher.now.entries)) result }
     ensures held { S.Holder.held suite.new ≡ S.Holder.held suite.old }
     ensures faults { S.Holder.faults suite.new ≡ S.Holder.faults suite.old }

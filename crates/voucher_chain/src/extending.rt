@@ -3,12 +3,13 @@ ghost use Rattle.cbor_core.specs.Deterministic.{det};
 ghost use Rattle.key_codec.specs.declared.key.PublicKey.{PublicKey};
 ghost use Rattle.voucher_chain.specs.Chain.{Chain, last_key, owner_bytes};
 ghost use Rattle.voucher_chain.specs.Extended.{AreSized, AsksLonger, AsksNext, Counts, IsExtended, IsReadAgain, IsReadBack, IsSignedWith, Refuses, RefusesNext};
+ghost use Rattle.voucher_chain.specs.Reading.{most_entries};
 
 use crate::chain::owner_key;
 use crate::entry::{Entry, payload_item_of};
 use crate::fault::ChainFault;
 use crate::strengths::{hash_kind_of, strength};
-use crate::voucher::{Entries, Voucher, are_bytes, copy_chain, copy_entries, voucher_raw};
+use crate::voucher::{Entries, MOST_ENTRIES, Voucher, are_bytes, copy_chain, copy_entries, voucher_raw};
 use cbor_core::{Blob, NoMemory, Pairs, write_det};
 use cose_envelopes::{CoseFault, Sign1, sign, write_sign1};
 use hash_hmac::{Hash, hash_of};
@@ -17,7 +18,7 @@ use std::alloc::Global;
 use suite_port::Suite;
 
 /// The voucher with one more entry, which names the next owner's key and is signed under the last one's, which the suite
-/// holds. The refusals come in this order: `TooLong`, exactly where the voucher has 255 entries; `NoAlgorithm` with the
+/// holds. The refusals come in this order: `TooLong`, exactly where the voucher has `MOST_ENTRIES` entries; `NoAlgorithm` with the
 /// number of its entries, exactly where `alg_of` gives none for the last owner's key; `Failed`; `NoMemory` may come at any
 /// place.
 pub fn extend<S: Suite>(
@@ -27,7 +28,7 @@ pub fn extend<S: Suite>(
     next: &PublicKey,
 ) -> Result<Voucher, ChainFault>
     requires held { S.Holder.held suite.old (owner_bytes voucher.now) ≡ true }
-    requires few { length voucher.now.entries ≤ 255 }
+    requires few { length voucher.now.entries ≤ most_entries }
     // All that the voucher had, its header, HMAC and entries byte for byte, and an entry that goes on from it to the next owner.
     ensures longer { IfOk result (IsExtended S.Verifier.verifies voucher.now next.now) }
     // A chain that holds is kept, with the next owner's key as its last.
@@ -54,7 +55,7 @@ fn lengthen<S: Suite>(
     next: &PublicKey,
 ) -> Result<Voucher, ChainFault>
     requires held { S.Holder.held suite.old (owner_bytes voucher.now) ≡ true }
-    requires few { length voucher.now.entries ≤ 255 }
+    requires few { length voucher.now.entries ≤ most_entries }
     ensures longer { IfOk result (IsExtended S.Verifier.verifies voucher.now next.now) }
     ensures sizes { IfOk result (λ longer. AreSized voucher.now longer) }
     ensures algorithm { IfOk result (IsSignedWith (S.Signer.algorithm (owner_bytes voucher.now)) voucher.now.entries) }
@@ -64,7 +65,7 @@ fn lengthen<S: Suite>(
     ensures asked { AsksLonger (S.Holder.asked suite.old) (S.Holder.asked suite.new) (owner_bytes voucher.now) voucher.now.entries result }
 {
     let count = voucher.entries.as_list().len();
-    if count >= 255 {
+    if count >= MOST_ENTRIES {
         return Err(ChainFault::TooLong);
     }
     let entry = next_entry(alloc, suite, voucher, count as u8, next)?;

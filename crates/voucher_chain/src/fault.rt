@@ -22,7 +22,7 @@ pub enum ChainFault {
     BadSignature(u8),
     /// A hash of the entry is of an unknown kind, or the suite has no algorithm for its signature.
     NoAlgorithm(u8),
-    /// The voucher has more than 255 entries, or would have.
+    /// The voucher has more than `MOST_ENTRIES` entries, or would have.
     TooLong,
     /// The voucher does not match the device's credential. No call of this crate answers it.
     NoMatch,

@@ -21,4 +21,4 @@ pub use fault::ChainFault;
 pub use header::{Guid, Header, header_item, read_header, replacement};
 pub use rv_info::{RvDirective, RvInfo, RvInstr, find_rv_fault, read_rv, rv_item};
 pub use strengths::{hash_kind_of, strength};
-pub use voucher::{Entries, Voucher, read_voucher, write_voucher};
+pub use voucher::{Entries, MOST_ENTRIES, Voucher, read_voucher, write_voucher};

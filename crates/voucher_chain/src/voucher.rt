@@ -77,6 +77,9 @@ pub(crate) fn copy_entries(alloc: Global, entries: &[Entry]) -> Result<Vec<Entry
     Ok(all)
 }
 
+/// The most entries of a voucher.
+pub const MOST_ENTRIES: usize = 255;
+
 /// An ownership voucher (FIDO Device Onboard 1.1, section 3.4.2).
 #[derive(Debug, Drop)]
 pub struct Voucher {
@@ -89,7 +92,7 @@ pub struct Voucher {
     pub hmac_raw: Blob,
     /// The certificates of the device.
     pub chain: Option<X5Chain>,
-    /// At most 255.
+    /// At most `MOST_ENTRIES`.
     pub entries: Entries,
 }
 
@@ -122,7 +125,7 @@ pub(crate) fn copy_chain(
 }
 
 /// The voucher that bytes spell, all of them. `BadShape` comes exactly where they are none of the form, `TooLong` exactly
-/// where one has more than 255 entries; its only other refusal is `NoMemory`.
+/// where one has more than `MOST_ENTRIES` entries; its only other refusal is `NoMemory`.
 pub fn read_voucher(alloc: Global, bytes: &[u8]) -> Result<Voucher, ChainFault>
     // What is read is spelled.
     ensures found { IfOk result (IsVoucher bytes.now) }
@@ -141,7 +144,7 @@ fn read_bounded(alloc: Global, bytes: &[u8]) -> Result<Voucher, ChainFault>
 {
     match read_whole(alloc, bytes) {
         Ok(voucher) => {
-            if voucher.entries.as_list().len() <= 255 {
+            if voucher.entries.as_list().len() <= MOST_ENTRIES {
                 Ok(voucher)
             } else {
                 Err(ChainFault::TooLong)

@@ -14,6 +14,7 @@ use Rattle.voucher_map.specs.declared.kept.Kept.TheVariants as kept
 use Rattle.voucher_map.specs.declared.seen.Seen.{Seen}
 use Rattle.voucher_map.specs.declared.fault.StoreFault.{StoreFault}
 use Rattle.voucher_map.specs.declared.fault.StoreFault.TheVariants as fault
+use Rattle.voucher_chain.specs.Reading.{most_entries}
 
 -- ---- entries
 
@@ -208,8 +209,8 @@ is_sent_to next (Some (kept.Sent voucher)) = same_key (last_key voucher.header.k
 is_sent_to next entry = false
 
 abbrev pub extend_refusal : Option ℤ → ℕ → Option StoreFault
-extend_refusal (Some algorithm) count = if nat_lt count 255 then None else Some (fault.Chain chain.TooLong)
-extend_refusal None count = if nat_lt count 255 then Some (fault.Chain (chain.NoAlgorithm count)) else Some (fault.Chain chain.TooLong)
+extend_refusal (Some algorithm) count = if nat_lt count most_entries then None else Some (fault.Chain chain.TooLong)
+extend_refusal None count = if nat_lt count most_entries then Some (fault.Chain (chain.NoAlgorithm count)) else Some (fault.Chain chain.TooLong)
 
 abbrev pub export_refusal_in : PublicKey → Option ℤ → PublicKey → Option Kept → Option StoreFault
 export_refusal_in mine algorithm next None = Some fault.Unknown
@@ -217,9 +218,9 @@ export_refusal_in mine algorithm next (Some (kept.Sent voucher)) = if same_key (
 export_refusal_in mine algorithm next (Some (kept.Held base candidate)) =
     or_else (replacing_refusal candidate) (or_else (owner_refusal mine base) (extend_refusal algorithm (length base.entries)))
 
--- no chain that is kept has more than 255 entries
+-- no chain that is kept has more entries than may be
 abbrev pub HasFew : Kept → Type 0
-HasFew entry = length (voucher_of entry).entries ≤ 255
+HasFew entry = length (voucher_of entry).entries ≤ most_entries
 
 abbrev pub AllHaveFew : List Kept → Type 0
 AllHaveFew entries = AllByRecursion HasFew entries

@@ -8,7 +8,7 @@ use crate::kept::Kept;
 use crate::keys::same_key;
 use crate::seen::Seen;
 use key_codec::PublicKey;
-use voucher_chain::{ChainFault, Guid, Voucher, owner_key};
+use voucher_chain::{ChainFault, Guid, MOST_ENTRIES, Voucher, owner_key};
 
 /// Why a voucher whose chain holds is not kept, but for want of room: its last owner's key is another one, or its GUID is kept
 /// under another header or as a candidate, or as long a chain of it is kept, or one with a candidate. It takes no memory.
@@ -148,7 +148,7 @@ fn refuse_base(
 fn refuse_length(algorithm: Option<i64>, count: usize) -> Option<StoreFault>
     ensures { result ≡ extend_refusal algorithm count }
 {
-    if count >= 255 {
+    if count >= MOST_ENTRIES {
         return Some(StoreFault::Chain(ChainFault::TooLong));
     }
     match algorithm {

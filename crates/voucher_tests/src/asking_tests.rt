@@ -5,7 +5,7 @@ use crate::voucher_rows::{FIVE, NO_ENTRIES};
 use key_codec::PublicKey;
 use suite_laws::{Call, Telling};
 use suite_port::{LabSuite, Signer};
-use voucher_chain::{ChainFault, Voucher, check_chain, read_voucher};
+use voucher_chain::{ChainFault, MOST_ENTRIES, Voucher, check_chain, read_voucher};
 use voucher_tool::extend_file;
 
 fn telling(rt: &HostRuntime) -> Telling<LabSuite> {
@@ -28,7 +28,7 @@ fn verified(calls: &[Call]) -> Option<usize> {
 
 fn checks(rt: &HostRuntime, voucher: &Voucher) -> Option<usize> {
     let mut suite = telling(rt);
-    if voucher.entries.as_list().len() > 255 {
+    if voucher.entries.as_list().len() > MOST_ENTRIES {
         return None;
     }
     let _ = check_chain(rt.alloc(), &mut suite, voucher);

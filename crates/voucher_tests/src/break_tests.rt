@@ -3,7 +3,7 @@ use crate::break_rows::{BROKEN, CHANGED, ENDS};
 use crate::given::lab;
 use crate::voucher_rows::FIVE;
 use suite_port::LabSuite;
-use voucher_chain::{ChainFault, Voucher, check_chain, read_voucher};
+use voucher_chain::{ChainFault, MOST_ENTRIES, Voucher, check_chain, read_voucher};
 
 /// The first fault or break of bytes, or None where they are a voucher whose chain holds.
 pub(crate) fn verdict(rt: &HostRuntime, bytes: &[u8]) -> Option<ChainFault> {
@@ -19,7 +19,7 @@ fn verdict_by(rt: &HostRuntime, suite: &mut LabSuite, bytes: &[u8]) -> Option<Ch
 }
 
 fn first_break(rt: &HostRuntime, suite: &mut LabSuite, voucher: &Voucher) -> Option<ChainFault> {
-    if voucher.entries.as_list().len() > 255 {
+    if voucher.entries.as_list().len() > MOST_ENTRIES {
         return Some(ChainFault::TooLong);
     }
     check_chain(rt.alloc(), suite, voucher).err()

@@ -10,7 +10,7 @@ use crate::given::{failing, key, lab, loads};
 use crate::voucher_rows::{NO_ENTRIES, ONE_ENTRY, STRONG, STRONGER};
 use key_codec::{PublicKey, key_bytes};
 use suite_port::{LabSuite, Signer};
-use voucher_chain::{ChainFault, Voucher, extend, owner_key, read_voucher};
+use voucher_chain::{ChainFault, MOST_ENTRIES, Voucher, extend, owner_key, read_voucher};
 
 /// Whether the suite holds the key of a voucher's last owner.
 fn holds_owner(rt: &HostRuntime, suite: &LabSuite, voucher: &Voucher) -> bool
@@ -29,7 +29,7 @@ fn longer(
     voucher: &Voucher,
     next: &PublicKey,
 ) -> Result<Voucher, ChainFault> {
-    if holds_owner(rt, suite, voucher) && voucher.entries.as_list().len() <= 255 {
+    if holds_owner(rt, suite, voucher) && voucher.entries.as_list().len() <= MOST_ENTRIES {
         extend(rt.alloc(), suite, voucher, next)
     } else {
         Err(ChainFault::NoMatch)

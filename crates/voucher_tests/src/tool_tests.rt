@@ -5,7 +5,7 @@ use crate::voucher_rows::{
 };
 use key_codec::PublicKey;
 use suite_port::LabSuite;
-use voucher_chain::{ChainFault, Voucher, read_voucher};
+use voucher_chain::{ChainFault, MOST_ENTRIES, Voucher, read_voucher};
 use voucher_tool::{check, extend_file, refusal, show};
 
 // ---- what is shown
@@ -41,7 +41,7 @@ fn vouchers_are_shown(rt: HostRuntime) {
 // ---- what is checked
 
 fn is_told(rt: &HostRuntime, suite: &mut LabSuite, voucher: &Voucher, text: &str) -> bool {
-    if voucher.entries.as_list().len() > 255 {
+    if voucher.entries.as_list().len() > MOST_ENTRIES {
         return false;
     }
     match check(rt.alloc(), suite, voucher) {
@@ -56,7 +56,7 @@ fn is_refused(
     voucher: &Voucher,
     wanted: ChainFault,
 ) -> bool {
-    if voucher.entries.as_list().len() > 255 {
+    if voucher.entries.as_list().len() > MOST_ENTRIES {
         return false;
     }
     match check(rt.alloc(), suite, voucher) {

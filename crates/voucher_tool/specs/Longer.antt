@@ -38,7 +38,7 @@ abbrev pub RefusesBytes : {A : Type 0} → (List ℕ → Bool) → (List ℕ →
 RefusesBytes held algorithm (Err f) result = result ≡ Err f
 RefusesBytes held algorithm (Ok v) result = RefusesVoucher held algorithm v result
 
--- want of memory may come at any place
+-- NoMemory may come at any place
 abbrev pub UnlessMemory : {A : Type 0} → (Result A ChainFault → Type 0) → Result A ChainFault → Type 0
 UnlessMemory said (Err fault.NoMemory) = Unit {0}
 UnlessMemory said result = said result

@@ -2,6 +2,7 @@ ghost use Rattle.std.specs.Prelude.{◌≡◌, ◌≤◌, length, IfOk};
 ghost use Rattle.voucher_chain.specs.Chain.{AsksToCheckAll};
 ghost use Rattle.voucher_chain.specs.Fault.{Answers};
 ghost use Rattle.voucher_tool.specs.Check.{check_text, check_told};
+ghost use Rattle.voucher_chain.specs.Reading.{most_entries};
 
 use crate::received::received_owner;
 use crate::showing::hash_text;
@@ -14,7 +15,7 @@ use voucher_chain::{ChainFault, Voucher, check_chain};
 /// received. Its refusals are those of `check_chain`.
 #[tactic(auto, using(crate::proofs::Asking::asked_all))]
 pub fn check<S: Suite>(alloc: Global, suite: &mut S, voucher: &Voucher) -> Result<Blob, ChainFault>
-    requires { length voucher.now.entries ≤ 255 }
+    requires { length voucher.now.entries ≤ most_entries }
     // The first break of the chain, or the text where nothing breaks it.
     ensures answer { Answers (check_told S.Verifier.verifies voucher.now) result }
     ensures held { S.Holder.held suite.new ≡ S.Holder.held suite.old }

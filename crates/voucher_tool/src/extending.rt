@@ -1,6 +1,6 @@
 ghost use Rattle.std.specs.Prelude.{◌≡◌, ◌≤◌, length, IfOk};
 ghost use Rattle.voucher_chain.specs.Extended.{Counts, IsExtended};
-ghost use Rattle.voucher_chain.specs.Reading.{voucher_at};
+ghost use Rattle.voucher_chain.specs.Reading.{most_entries, voucher_at};
 ghost use Rattle.voucher_tool.specs.Longer.{AsksFile, AsksRaw, IsLonger, RefusesFile, RefusesVoucher, UnlessMemory};
 
 use cbor_core::Blob;
@@ -42,7 +42,7 @@ fn extend_voucher<S: Suite>(
     voucher: &Voucher,
     next: &PublicKey,
 ) -> Result<Blob, ChainFault>
-    requires { length voucher.now.entries ≤ 255 }
+    requires { length voucher.now.entries ≤ most_entries }
     ensures longer { IfOk result (IsRawExtended S.Verifier.verifies voucher.now next.now) }
     ensures refused { UnlessMemory (RefusesVoucher (S.Holder.held suite.old) S.Signer.algorithm voucher.now) result }
     ensures held { S.Holder.held suite.new ≡ S.Holder.held suite.old }

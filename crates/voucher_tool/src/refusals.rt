@@ -6,7 +6,7 @@ use std::alloc::Global;
 use voucher_chain::ChainFault;
 
 /// The text for a refusal, with the number of the entry where it has one. None for bytes that are no voucher, for a
-/// credential of another device, and for want of memory.
+/// credential of another device, and where memory ran out.
 pub fn refusal(alloc: Global, fault: ChainFault) -> Result<Option<Blob>, NoMemory>
     ensures { IfOk result (λ text. text ≡ refusal_text fault) }
 {
