@@ -1,4 +1,4 @@
-ghost use Rattle.std.specs.Prelude.{◌≡◌, ℕ, IfOk, OnErr};
+ghost use Rattle.std.specs.Prelude.{◌≡◌, ℕ, List, IfOk, OnErr};
 ghost use Rattle.fdo_msgs.specs.declared.packet.Packet.{Packet};
 ghost use Rattle.fdo_msgs.specs.declared.answer.Answer.{Answer};
 
@@ -15,7 +15,7 @@ pub trait Handler {
     ghost state: { Self → State };
 
     /// Which objects it was lent. No step changes that.
-    ghost objects: { Self → ℕ };
+    ghost objects: { Self → List ℕ };
 
     /// It may step.
     ghost ready: { Self → Type 0 };

@@ -11,7 +11,7 @@ pub struct RvHandler<'a, N: Random> {
 }
 
 impl<'a, N: Random> Handler for RvHandler<'a, N> {
-    ghost use Rattle.std.specs.Prelude.{ℕ};
+    ghost use Rattle.std.specs.Prelude.{List, ℕ, [], ◌∷◌};
     ghost use Rattle.fdo_ports.specs.Draw.{drawn};
     ghost use Rattle.rendezvous.specs.RvState.{RvState, RvGivesUp, rv_state};
     ghost use Rattle.rendezvous.specs.RvStep.{RvStep};
@@ -20,7 +20,7 @@ impl<'a, N: Random> Handler for RvHandler<'a, N> {
 
     ghost state = { λ h. rv_state (drawn N.Random h.random.now) };
 
-    ghost objects = { λ h. h.random.ghost_name };
+    ghost objects = { λ h. h.random.ghost_name ∷ [] };
 
     ghost ready = { λ _. Unit {0} };
 

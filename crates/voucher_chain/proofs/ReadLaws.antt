@@ -48,7 +48,7 @@ voucher_found bytes (Ok v) fits e =
     record { shown = shows_found voucher_seen voucher_place bytes v fits h.0; few = h.1 }
 voucher_found bytes (Err f) fits e = tt
 
-voucher_again : (bytes : List ℕ) (v : Voucher) → IsVoucher bytes v → voucher_at bytes ≡ Ok v
+pub voucher_again : (bytes : List ℕ) (v : Voucher) → IsVoucher bytes v → voucher_at bytes ≡ Ok v
 voucher_again bytes v h = ap bounded (shows_again voucher_seen voucher_place bytes v h.shown) ∙ (rw (le-leb (length v.entries) most_entries h.few) refl)
 
 pub voucher_only : (bytes : List ℕ) (r : Result Voucher ChainFault) → Answers (voucher_at bytes) r → (v : Voucher) → IsVoucher bytes v → Answers (Ok v) r

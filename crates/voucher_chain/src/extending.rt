@@ -9,7 +9,9 @@ use crate::chain::owner_key;
 use crate::entry::{Entry, payload_item_of};
 use crate::fault::ChainFault;
 use crate::strengths::{hash_kind_of, strength};
-use crate::voucher::{Entries, MOST_ENTRIES, Voucher, are_bytes, copy_chain, copy_entries, voucher_raw};
+use crate::voucher::{
+    Entries, MOST_ENTRIES, Voucher, are_bytes, copy_chain, copy_entries, voucher_raw,
+};
 use cbor_core::{Blob, NoMemory, Pairs, write_det};
 use cose_envelopes::{CoseFault, Sign1, sign, write_sign1};
 use hash_hmac::{Hash, hash_of};
