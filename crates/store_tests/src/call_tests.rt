@@ -188,7 +188,7 @@ fn a_body_of_version_1_is_written_anew(rt: HostRuntime) -> Result<(), Fail> {
 
 /// Whether a file has the body of version 1 in the first slot and in the second, of generation 2, the same of version 2, and
 /// is not changed when it is opened again.
-fn is_renewed(rt: &HostRuntime, image: &[u8]) -> bool {
+pub(crate) fn is_renewed(rt: &HostRuntime, image: &[u8]) -> bool {
     match (old_file(rt), body(rt, &[])) {
         (Ok(old), Ok(body)) => {
             let mut file = old;

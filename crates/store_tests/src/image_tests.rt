@@ -343,7 +343,7 @@ fn reads_beside_zero(rt: &HostRuntime, generation: u64, told: Result<u8, u64>) -
 }
 
 /// 8,192 bytes 01, whose length is too great, and a slot with the body `00`.
-fn after_ones(rt: &HostRuntime) -> Result<Vec<u8>, NoMemory> {
+pub(crate) fn after_ones(rt: &HostRuntime) -> Result<Vec<u8>, NoMemory> {
     let mut file = Vec::new(rt.alloc());
     file.resize(8192, 1)?;
     put_slot(&mut file, 8192, 1, 1, b"\x00")?;

@@ -4,6 +4,8 @@
 #[cfg(test)]
 mod call_tests;
 #[cfg(test)]
+mod file_tests;
+#[cfg(test)]
 mod given;
 #[cfg(test)]
 mod image_tests;
