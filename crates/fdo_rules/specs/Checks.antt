@@ -1,11 +1,16 @@
 -- Checks one after the other: the first that fails is the cause of a refusal.
 use Rattle.std.specs.Prelude.{ℕ, ℤ, pos, List, length, Bool, true, false, nat_le, ◌==◌, if◌then◌else◌, Option, Some, None, Result, Ok, Err, ok_or}
+use Rattle.std.specs.Str.{bytes_eq}
 use Rattle.cbor_core.specs.Deterministic.{det}
+use Rattle.cbor_core.specs.Reading.{first_item}
+use Rattle.cbor_core.specs.declared.fault.CborFault.{CborFault}
+use Rattle.cbor_core.specs.declared.item.Item.{Item}
 use Rattle.cose_envelopes.specs.declared.sign1.Sign1.{Sign1}
 use Rattle.cose_envelopes.specs.Text.{sign1_structure}
 use Rattle.hash_hmac.specs.declared.hash.Hash.{Hash}
+use Rattle.key_codec.specs.declared.fault.KeyFault.{KeyFault}
 use Rattle.key_codec.specs.declared.key.PublicKey.{PublicKey}
-use Rattle.key_codec.specs.Key.{item_of_key}
+use Rattle.key_codec.specs.Key.{item_of_key, key_in}
 use Rattle.voucher_chain.specs.Chain.{Verifies, signature_told, hash_told}
 use Rattle.fdo_msgs.specs.Kind.{error}
 use Rattle.fdo_msgs.specs.Reading.{body_at}
@@ -63,6 +68,18 @@ verified_by verifies key sign = by_told sign.alg (verifies key sign.alg (sign1_s
 
 abbrev pub verified : Verifies → PublicKey → Sign1 → Result (Unit {0}) Cause
 verified verifies key sign = by_told sign.alg (signature_told verifies key sign)
+
+-- bytes that are the deterministic spelling of a key
+abbrev pub spelled_by_key : List ℕ → Result PublicKey KeyFault → Option (List ℕ)
+spelled_by_key bytes (Ok key) = if bytes_eq bytes (det (item_of_key key)) then Some bytes else None
+spelled_by_key bytes (Err _) = None
+
+abbrev pub spelled_by_item : List ℕ → Result (Item × ℕ) CborFault → Option (List ℕ)
+spelled_by_item bytes (Ok item) = spelled_by_key bytes (key_in item.0)
+spelled_by_item bytes (Err _) = None
+
+abbrev pub spelled_key : List ℕ → Option (List ℕ)
+spelled_key bytes = spelled_by_item bytes (first_item false bytes)
 
 abbrev pub key_bytes : PublicKey → List ℕ
 key_bytes key = det (item_of_key key)

@@ -1,3 +1,4 @@
+pub mod Unfit
 pub mod Row
 pub mod Suite
 pub mod Checks

@@ -8,12 +8,14 @@ use Rattle.service_info.specs.declared.pair.Pair.{Pair}
 use Rattle.voucher_chain.specs.declared.entry.Entry.{Entry}
 use Rattle.voucher_chain.specs.declared.header.Header.{Header}
 use Rattle.voucher_chain.specs.declared.rv_info.RvInstr.{RvInstr}
-use Rattle.voucher_chain.specs.declared.voucher.Voucher.{Voucher}
 use Rattle.fdo_msgs.specs.declared.header_payload.HeaderPayload.{HeaderPayload}
 use Rattle.fdo_msgs.specs.declared.mfg.MfgInfo.{MfgInfo}
 use Rattle.fdo_msgs.specs.declared.msg.Msg.{Msg}
 use Rattle.fdo_msgs.specs.declared.msg.Msg.TheVariants as msg
 use Rattle.fdo_msgs.specs.declared.to1d.To1d.{To1d}
+use Rattle.fdo_rules.specs.declared.parts.HelloRv.{HelloRv}
+use Rattle.fdo_rules.specs.declared.parts.OwnerSign.{OwnerSign}
+use Rattle.fdo_rules.specs.declared.parts.Proof.{Proof}
 
 -- ---- DI
 
@@ -43,13 +45,6 @@ abbrev pub hello_ack : Msg → Option (List ℕ)
 hello_ack (msg.HelloAck nonce) = Some nonce
 hello_ack m = None
 
-pub record OwnerSign : Type 0 where
-  pub to0d : List ℕ
-  pub voucher : Voucher
-  pub wait : ℕ
-  pub nonce : List ℕ
-  pub to1d : To1d
-
 abbrev pub owner_sign : Msg → Option OwnerSign
 owner_sign (msg.OwnerSign to0d voucher wait nonce to1d) = Some (record { to0d = to0d; voucher = voucher; wait = wait; nonce = nonce; to1d = to1d })
 owner_sign m = None
@@ -60,10 +55,6 @@ accept_owner m = None
 
 -- ---- TO1
 
-pub record HelloRv : Type 0 where
-  pub guid : List ℕ
-  pub sig : SigInfo
-
 abbrev pub hello_rv : Msg → Option HelloRv
 hello_rv (msg.HelloRv guid sig) = Some (record { guid = guid; sig = sig })
 hello_rv m = None
@@ -71,11 +62,6 @@ hello_rv m = None
 abbrev pub hello_rv_ack : Msg → Option (List ℕ)
 hello_rv_ack (msg.HelloRvAck nonce sig) = Some nonce
 hello_rv_ack m = None
-
-pub record Proof : Type 0 where
-  pub nonce : List ℕ
-  pub guid : List ℕ
-  pub sign : Sign1
 
 abbrev pub prove_to_rv : Msg → Option Proof
 prove_to_rv (msg.ProveToRv nonce guid sign) = Some (record { nonce = nonce; guid = guid; sign = sign })

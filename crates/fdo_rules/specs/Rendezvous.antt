@@ -18,27 +18,23 @@ use Rattle.fdo_msgs.specs.declared.cause.Cause.TheVariants as cause
 use Rattle.fdo_msgs.specs.declared.cause.Object.TheVariants as object
 use Rattle.fdo_msgs.specs.declared.msg.Msg.TheVariants as msg
 use Rattle.fdo_msgs.specs.declared.packet.Packet.{Packet}
-use Rattle.fdo_msgs.specs.declared.to1d.To1d.{To1d}
 use Rattle.fdo_rules.specs.Checks.{◌>>=◌, wants, said, verified, verified_by, is_hash_of, no_algorithm}
 use Rattle.fdo_rules.specs.DeviceTo2.{chain_check}
 use Rattle.fdo_rules.specs.OwnerHello.{first_certificate}
-use Rattle.fdo_rules.specs.Parts.{HelloRv, OwnerSign, hello, hello_rv, owner_sign, prove_to_rv}
+use Rattle.fdo_rules.specs.Parts.{hello, hello_rv, owner_sign, prove_to_rv}
 use Rattle.fdo_rules.specs.Row.{Row}
 use Rattle.fdo_rules.specs.Server.{dropped, named, of_session, reply, touched}
-use Rattle.fdo_rules.specs.Suite.{Suite}
+use Rattle.fdo_rules.specs.Suite.{Checking}
+use Rattle.fdo_rules.specs.declared.parts.HelloRv.{HelloRv}
+use Rattle.fdo_rules.specs.declared.parts.OwnerSign.{OwnerSign}
+use Rattle.fdo_rules.specs.declared.parts.Proof.{Proof}
+use Rattle.fdo_rules.specs.declared.rendezvous.Asked.{Asked}
+use Rattle.fdo_rules.specs.declared.rendezvous.Owned.{Owned}
+use Rattle.fdo_rules.specs.declared.rendezvous.Protocol.{Protocol}
+use Rattle.fdo_rules.specs.declared.rendezvous.Protocol.TheVariants as protocol
+use Rattle.fdo_rules.specs.declared.rendezvous.Registering.{Registering}
 
 -- ---- what it keeps
-
--- where an owner is, and the key of its device
-pub record Owned : Type 0 where
-  pub to1d : To1d
-  pub leaf : List ℕ
-
--- a session of TO1: the nonce, the Guid and the device's key
-pub record Asked : Type 0 where
-  pub nonce : List ℕ
-  pub guid : List ℕ
-  pub leaf : List ℕ
 
 -- the registrations, the nonces of TO0's sessions, and the sessions of TO1
 pub record RvView : Type 0 where
@@ -52,10 +48,6 @@ RvRow = Row (Unit {0}) (RvView × Answer)
 
 -- ---- sessions: a token names one of the message's own protocol, else one of TO0, else one of TO1
 
-pub data Protocol : Type 0 where
-  To0 : Protocol
-  To1 : Protocol
-
 abbrev pub in_to0 : RvView → Option (List ℕ) → Bool
 in_to0 s token = is_some (named token s.to0)
 
@@ -63,16 +55,16 @@ abbrev pub in_to1 : RvView → Option (List ℕ) → Bool
 in_to1 s token = is_some (named token s.to1)
 
 abbrev pub protocol_named : Protocol → RvView → Option (List ℕ) → Protocol
-protocol_named Protocol.To0 s token = if in_to0 s token then Protocol.To0 else Protocol.To1
-protocol_named Protocol.To1 s token = if in_to1 s token then Protocol.To1 else Protocol.To0
+protocol_named protocol.To0 s token = if in_to0 s token then protocol.To0 else protocol.To1
+protocol_named protocol.To1 s token = if in_to1 s token then protocol.To1 else protocol.To0
 
 abbrev pub ended_in : Protocol → RvView → Option (List ℕ) → RvView
-ended_in Protocol.To0 s token = record { entries = s.entries; to0 = dropped token s.to0; to1 = s.to1 }
-ended_in Protocol.To1 s token = record { entries = s.entries; to0 = s.to0; to1 = dropped token s.to1 }
+ended_in protocol.To0 s token = record { entries = s.entries; to0 = dropped token s.to0; to1 = s.to1 }
+ended_in protocol.To1 s token = record { entries = s.entries; to0 = s.to0; to1 = dropped token s.to1 }
 
 abbrev pub touched_in : Protocol → RvView → Option (List ℕ) → RvView
-touched_in Protocol.To0 s token = record { entries = s.entries; to0 = touched token s.to0; to1 = s.to1 }
-touched_in Protocol.To1 s token = record { entries = s.entries; to0 = s.to0; to1 = touched token s.to1 }
+touched_in protocol.To0 s token = record { entries = s.entries; to0 = touched token s.to0; to1 = s.to1 }
+touched_in protocol.To1 s token = record { entries = s.entries; to0 = s.to0; to1 = touched token s.to1 }
 
 abbrev pub without_named : Protocol → RvView → Option (List ℕ) → RvView
 without_named own s token = ended_in (protocol_named own s token) s token
@@ -93,16 +85,16 @@ to0_begins s nonce token =
     Row.Ends (record { entries = s.entries; to0 = started (bearer_token token) nonce s.to0; to1 = s.to1 }, reply (Some (bearer_token token)) kind.hello_ack (body_of (msg.HelloAck nonce)))
 
 abbrev pub hello_token : RvView → Packet → List ℕ → Result (List ℕ) Failed → RvRow
-hello_token s packet nonce (Ok token) = to0_begins (with_touched Protocol.To0 s packet.token) nonce token
-hello_token s packet nonce (Err _) = refuses Protocol.To0 s packet (cause.Outside object.Random)
+hello_token s packet nonce (Ok token) = to0_begins (with_touched protocol.To0 s packet.token) nonce token
+hello_token s packet nonce (Err _) = refuses protocol.To0 s packet (cause.Outside object.Random)
 
 abbrev pub hello_nonce : RvView → Packet → Result (List ℕ) Failed → RvRow
 hello_nonce s packet (Ok nonce) = Row.Draws (hello_token s packet nonce)
-hello_nonce s packet (Err _) = refuses Protocol.To0 s packet (cause.Outside object.Random)
+hello_nonce s packet (Err _) = refuses protocol.To0 s packet (cause.Outside object.Random)
 
 abbrev pub hello_row : RvView → Packet → Result (Unit {0}) Cause → RvRow
 hello_row s packet (Ok _) = Row.Draws (hello_nonce s packet)
-hello_row s packet (Err e) = refuses Protocol.To0 s packet e
+hello_row s packet (Err e) = refuses protocol.To0 s packet e
 
 -- ---- TO0.OwnerSign
 
@@ -135,22 +127,34 @@ most_seconds = 2592000
 abbrev pub end_of : ℕ → ℕ → ℕ
 end_of now seconds = min (now + seconds) (2 ^ 64 - 1)
 
-pub record Registering : Type 0 where
-  pub sign : OwnerSign
-  pub leaf : List ℕ
-
-unfoldable pub sign_checks : Suite → RvView → Packet → Result Registering Cause
-sign_checks suite s packet =
-    of_session (named packet.token s.to0)
-    >>= λ nonce. said owner_sign kind.owner_sign packet.body
-    >>= λ sign. wants (bytes_eq sign.nonce nonce) cause.Nonce
+-- the nonce, the hash and the two kinds of signatures
+unfoldable pub said_checks : Checking → List ℕ → OwnerSign → Result (Unit {0}) Cause
+said_checks suite nonce sign =
+    wants (bytes_eq sign.nonce nonce) cause.Nonce
     >>= λ _. wants (is_hash_of sign.to1d.to0d_hash sign.to0d) cause.HashDiffers
     >>= λ _. chain_check (first_break suite.verifies sign.voucher)
     >>= λ _. verified suite.verifies (last_key sign.voucher.header.key sign.voucher.entries) sign.to1d.sign
-    >>= λ _. misplaced 0 sign.to1d.addrs
+
+-- that it can be kept
+unfoldable pub kept_checks : OwnerSign → Result (Unit {0}) Cause
+kept_checks sign =
+    misplaced 0 sign.to1d.addrs
     >>= λ _. fits_registry sign.to1d.raw
     >>= λ _. leaf_fits (first_certificate sign.voucher.chain)
-    >>= λ _. ok_or (option_and_then suite.leaf (first_certificate sign.voucher.chain)) no_algorithm
+
+-- the device's key
+unfoldable pub leaf_of : Checking → OwnerSign → Result (List ℕ) Cause
+leaf_of suite sign = ok_or (option_and_then suite.leaf (first_certificate sign.voucher.chain)) no_algorithm
+
+-- the device's key, where all holds
+unfoldable pub key_checked : Checking → List ℕ → OwnerSign → Result (List ℕ) Cause
+key_checked suite nonce sign = said_checks suite nonce sign >>= λ _. kept_checks sign >>= λ _. leaf_of suite sign
+
+abbrev pub sign_checks : Checking → RvView → Packet → Result Registering Cause
+sign_checks suite s packet =
+    of_session (named packet.token s.to0)
+    >>= λ nonce. said owner_sign kind.owner_sign packet.body
+    >>= λ sign. key_checked suite nonce sign
     >>= λ leaf. Ok (record { sign = sign; leaf = leaf })
 
 abbrev pub registration : Registering → ℕ → ℕ → Registration Owned
@@ -164,16 +168,16 @@ accepts s packet r now seconds =
     )
 
 abbrev pub if_place : Bool → RvView → Packet → Registering → ℕ → RvRow
-if_place true s packet r now = refuses Protocol.To0 s packet (cause.Full most_registrations)
+if_place true s packet r now = refuses protocol.To0 s packet (cause.Full most_registrations)
 if_place false s packet r now = accepts s packet r now (min r.sign.wait most_seconds)
 
 abbrev pub sign_clock : RvView → Packet → Registering → Result ℕ Failed → RvRow
 sign_clock s packet r (Ok now) = if_place (is_full now r.sign.voucher.header.guid s.entries) s packet r now
-sign_clock s packet r (Err _) = refuses Protocol.To0 s packet (cause.Outside object.Clock)
+sign_clock s packet r (Err _) = refuses protocol.To0 s packet (cause.Outside object.Clock)
 
 abbrev pub sign_row : RvView → Packet → Result Registering Cause → RvRow
 sign_row s packet (Ok r) = Row.Reads (sign_clock s packet r)
-sign_row s packet (Err e) = refuses Protocol.To0 s packet e
+sign_row s packet (Err e) = refuses protocol.To0 s packet e
 
 -- ---- TO1.HelloRV
 
@@ -185,60 +189,64 @@ to1_begins s leaf asked nonce token =
     )
 
 abbrev pub rv_token : RvView → Packet → List ℕ → HelloRv → List ℕ → Result (List ℕ) Failed → RvRow
-rv_token s packet leaf asked nonce (Ok token) = to1_begins (with_touched Protocol.To1 s packet.token) leaf asked nonce token
-rv_token s packet leaf asked nonce (Err _) = refuses Protocol.To1 s packet (cause.Outside object.Random)
+rv_token s packet leaf asked nonce (Ok token) = to1_begins (with_touched protocol.To1 s packet.token) leaf asked nonce token
+rv_token s packet leaf asked nonce (Err _) = refuses protocol.To1 s packet (cause.Outside object.Random)
 
 abbrev pub rv_nonce : RvView → Packet → List ℕ → HelloRv → Result (List ℕ) Failed → RvRow
 rv_nonce s packet leaf asked (Ok nonce) = Row.Draws (rv_token s packet leaf asked nonce)
-rv_nonce s packet leaf asked (Err _) = refuses Protocol.To1 s packet (cause.Outside object.Random)
+rv_nonce s packet leaf asked (Err _) = refuses protocol.To1 s packet (cause.Outside object.Random)
 
 abbrev pub rv_signs : Bool → RvView → Packet → List ℕ → HelloRv → RvRow
 rv_signs true s packet leaf asked = Row.Draws (rv_nonce s packet leaf asked)
-rv_signs false s packet leaf asked = refuses Protocol.To1 s packet no_algorithm
+rv_signs false s packet leaf asked = refuses protocol.To1 s packet no_algorithm
 
-abbrev pub rv_found : Option Owned → Suite → RvView → Packet → HelloRv → RvRow
+abbrev pub rv_found : Option Owned → Checking → RvView → Packet → HelloRv → RvRow
 rv_found (Some owned) suite s packet asked = rv_signs (is_some (suite.algorithm owned.leaf)) s packet owned.leaf asked
-rv_found None suite s packet asked = refuses Protocol.To1 s packet (cause.Missing asked.guid)
+rv_found None suite s packet asked = refuses protocol.To1 s packet (cause.Missing asked.guid)
 
-abbrev pub rv_clock : Suite → RvView → Packet → HelloRv → Result ℕ Failed → RvRow
+abbrev pub rv_clock : Checking → RvView → Packet → HelloRv → Result ℕ Failed → RvRow
 rv_clock suite s packet asked (Ok now) = rv_found (found now asked.guid s.entries) suite s packet asked
-rv_clock suite s packet asked (Err _) = refuses Protocol.To1 s packet (cause.Outside object.Clock)
+rv_clock suite s packet asked (Err _) = refuses protocol.To1 s packet (cause.Outside object.Clock)
 
-abbrev pub hello_rv_row : Suite → RvView → Packet → Result HelloRv Cause → RvRow
+abbrev pub hello_rv_row : Checking → RvView → Packet → Result HelloRv Cause → RvRow
 hello_rv_row suite s packet (Ok asked) = Row.Reads (rv_clock suite s packet asked)
-hello_rv_row suite s packet (Err e) = refuses Protocol.To1 s packet e
+hello_rv_row suite s packet (Err e) = refuses protocol.To1 s packet e
 
 -- ---- TO1.ProveToRV
 
-unfoldable pub proof_checks : Suite → RvView → Packet → Result (List ℕ) Cause
+unfoldable pub asked_checks : Checking → Asked → Proof → Result (Unit {0}) Cause
+asked_checks suite asked proof =
+    verified_by suite.verifies asked.leaf proof.sign
+    >>= λ _. wants (bytes_eq proof.nonce asked.nonce) cause.Nonce
+    >>= λ _. wants (bytes_eq proof.guid asked.guid) cause.GuidDiffers
+
+abbrev pub proof_checks : Checking → RvView → Packet → Result (List ℕ) Cause
 proof_checks suite s packet =
     of_session (named packet.token s.to1)
     >>= λ asked. said prove_to_rv kind.prove_to_rv packet.body
-    >>= λ proof. verified_by suite.verifies asked.leaf proof.sign
-    >>= λ _. wants (bytes_eq proof.nonce asked.nonce) cause.Nonce
-    >>= λ _. wants (bytes_eq proof.guid asked.guid) cause.GuidDiffers
+    >>= λ proof. asked_checks suite asked proof
     >>= λ _. Ok asked.guid
 
 abbrev pub redirects : Option Owned → RvView → Packet → List ℕ → RvRow
 redirects (Some owned) s packet guid =
     Row.Ends (record { entries = s.entries; to0 = s.to0; to1 = dropped packet.token s.to1 }, reply packet.token kind.rv_redirect (body_of (msg.RvRedirect owned.to1d)))
-redirects None s packet guid = refuses Protocol.To1 s packet (cause.Missing guid)
+redirects None s packet guid = refuses protocol.To1 s packet (cause.Missing guid)
 
 abbrev pub proof_clock : RvView → Packet → List ℕ → Result ℕ Failed → RvRow
 proof_clock s packet guid (Ok now) = redirects (found now guid s.entries) s packet guid
-proof_clock s packet guid (Err _) = refuses Protocol.To1 s packet (cause.Outside object.Clock)
+proof_clock s packet guid (Err _) = refuses protocol.To1 s packet (cause.Outside object.Clock)
 
 abbrev pub proof_row : RvView → Packet → Result (List ℕ) Cause → RvRow
 proof_row s packet (Ok guid) = Row.Reads (proof_clock s packet guid)
-proof_row s packet (Err e) = refuses Protocol.To1 s packet e
+proof_row s packet (Err e) = refuses protocol.To1 s packet e
 
 -- ---- all
 
-unfoldable pub rendezvous_row : Suite → RvView → Packet → RvRow
+unfoldable pub rendezvous_row : Checking → RvView → Packet → RvRow
 rendezvous_row suite s packet =
-    if packet.kind == kind.error then Row.Ends (without_named Protocol.To0 s packet.token, answers.Ended)
+    if packet.kind == kind.error then Row.Ends (without_named protocol.To0 s packet.token, answers.Ended)
     else if packet.kind == kind.hello then hello_row s packet (said hello kind.hello packet.body)
     else if packet.kind == kind.owner_sign then sign_row s packet (sign_checks suite s packet)
     else if packet.kind == kind.hello_rv then hello_rv_row suite s packet (said hello_rv kind.hello_rv packet.body)
     else if packet.kind == kind.prove_to_rv then proof_row s packet (proof_checks suite s packet)
-    else refuses Protocol.To0 s packet (cause.Turn packet.kind)
+    else refuses protocol.To0 s packet (cause.Turn packet.kind)

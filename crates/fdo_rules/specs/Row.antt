@@ -28,6 +28,15 @@ module _ {S C : Type 0} (draws : S → Result (List ℕ) Failed → S → Type 0
   Comes (Row.Issues key next) s result t = (answer : Result (List ℕ) Failed) × (u : S) × issues s key answer u × Comes (next answer) u result t
   Comes (Row.Stores content next) s result t = (answer : Result (Unit {0}) Failed) × (u : S) × stores s content answer u × Comes (next answer) u result t
 
+  -- memory runs out on the way: before all of it, or after some of what it asks, each once and in order
+  abbrev pub Leaves : {R : Type 0} → Row C R → S → S → Type 0
+  Leaves (Row.Ends r) s t = t ≡ s
+  Leaves (Row.Draws next) s t = (t ≡ s) ⊎ ((answer : Result (List ℕ) Failed) × (u : S) × draws s answer u × Leaves (next answer) u t)
+  Leaves (Row.Reads next) s t = (t ≡ s) ⊎ ((answer : Result ℕ Failed) × (u : S) × reads s answer u × Leaves (next answer) u t)
+  Leaves (Row.Signs key text next) s t = (t ≡ s) ⊎ ((answer : Result (List ℕ) Failed) × (u : S) × signs s key text answer u × Leaves (next answer) u t)
+  Leaves (Row.Issues key next) s t = (t ≡ s) ⊎ ((answer : Result (List ℕ) Failed) × (u : S) × issues s key answer u × Leaves (next answer) u t)
+  Leaves (Row.Stores content next) s t = t ≡ s
+
   -- a row comes to its write, after which nothing of it is done: the content is kept or left out
   abbrev pub Stops : {R : Type 0} → Row C R → S → Option C → S → Type 0
   Stops (Row.Ends r) s kept t = ⊥

@@ -22,6 +22,15 @@ pub record Suite : Type 0 where
   pub leaf : List ℕ → Option (List ℕ)
   pub issues : List ℕ → Bool
 
+-- the part of it that a rendezvous server needs
+pub record Checking : Type 0 where
+  pub verifies : Verifies
+  pub algorithm : List ℕ → Option ℤ
+  pub leaf : List ℕ → Option (List ℕ)
+
+abbrev pub checking : Suite → Checking
+checking suite = record { verifies = suite.verifies; algorithm = suite.algorithm; leaf = suite.leaf }
+
 -- ---- laws
 
 -- what signs means by key, text and signature

@@ -3,5 +3,11 @@
 #![tactic(auto)]
 
 pub mod laws;
+pub mod parts;
+pub mod rendezvous;
+pub mod unfit;
 
 pub use laws::{credential_stays, device_waits, owner_refuses, servers_wait, sides_differ};
+pub use parts::{HelloRv, OwnerSign, Proof};
+pub use rendezvous::{Asked, Owned, Protocol, Registering};
+pub use unfit::Unfit;

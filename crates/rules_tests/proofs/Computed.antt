@@ -1,6 +1,6 @@
 -- Rows that compute.
 use Rattle.std.proofs.Common.{refl}
-use Rattle.fdo_rules.specs.Rendezvous.{rendezvous_row, sign_checks}
+use Rattle.fdo_rules.specs.Rendezvous.{rendezvous_row}
 use Rattle.fdo_rules.specs.To0Client.{accept_owner_row}
 use Rattle.rules_tests.specs.Client.{TurnStops}
 use Rattle.rules_tests.specs.Rendezvous.{TurnsAway, NamesNoSession, EndsAtError}
@@ -10,7 +10,7 @@ unfolding rendezvous_row
 turned_away = refl
 
 pub unnamed : NamesNoSession
-unfolding rendezvous_row sign_checks
+unfolding rendezvous_row
 unnamed = refl
 
 pub ended : EndsAtError

@@ -9,9 +9,10 @@ use Rattle.fdo_msgs.specs.declared.cause.Cause.TheVariants as cause
 use Rattle.fdo_msgs.specs.declared.msg.Msg.TheVariants as msg
 use Rattle.fdo_msgs.specs.declared.packet.Packet.{Packet}
 use Rattle.fdo_rules.specs.Rendezvous.{RvView, rendezvous_row, rv_found, hello_row}
-use Rattle.fdo_rules.specs.Parts.{HelloRv}
+use Rattle.fdo_rules.specs.declared.parts.HelloRv.{HelloRv}
 use Rattle.fdo_rules.specs.Row.{Row, given}
 use Rattle.fdo_rules.specs.Server.{reply}
+use Rattle.fdo_rules.specs.Suite.{checking}
 use Rattle.rules_tests.specs.Toy.{calm, toy}
 use Rattle.std.specs.Prelude.{Ok}
 
@@ -28,14 +29,14 @@ GreetsTo0 =
     ≡ ((record { entries = []; to0 = (bearer_token (1 ∷ []), 0 ∷ []) ∷ []; to1 = [] }, reply (Some (bearer_token (1 ∷ []))) kind.hello_ack (body_of (msg.HelloAck (0 ∷ [])))), 2)
 
 abbrev pub TurnsAway : Type 0
-TurnsAway = rendezvous_row toy empty (bare 60 []) ≡ Row.Ends (empty, answers.Refused (error_of (cause.Turn 60) 60 None) (cause.Turn 60))
+TurnsAway = rendezvous_row (checking toy) empty (bare 60 []) ≡ Row.Ends (empty, answers.Refused (error_of (cause.Turn 60) 60 None) (cause.Turn 60))
 
 abbrev pub NamesNoSession : Type 0
-NamesNoSession = rendezvous_row toy empty (bare 22 []) ≡ Row.Ends (empty, answers.Refused (error_of cause.Token 22 None) cause.Token)
+NamesNoSession = rendezvous_row (checking toy) empty (bare 22 []) ≡ Row.Ends (empty, answers.Refused (error_of cause.Token 22 None) cause.Token)
 
 abbrev pub EndsAtError : Type 0
-EndsAtError = rendezvous_row toy empty (bare 255 []) ≡ Row.Ends (empty, answers.Ended)
+EndsAtError = rendezvous_row (checking toy) empty (bare 255 []) ≡ Row.Ends (empty, answers.Ended)
 
 abbrev pub MissesDevice : Type 0
 MissesDevice =
-    (asked : HelloRv) → rv_found None toy empty (bare 30 []) asked ≡ Row.Ends (empty, answers.Refused (error_of (cause.Missing asked.guid) 30 None) (cause.Missing asked.guid))
+    (asked : HelloRv) → rv_found None (checking toy) empty (bare 30 []) asked ≡ Row.Ends (empty, answers.Refused (error_of (cause.Missing asked.guid) 30 None) (cause.Missing asked.guid))
