@@ -1,3 +1,2 @@
-pub mod RvBack
-pub mod Made
+pub mod Replies
 pub mod Steps

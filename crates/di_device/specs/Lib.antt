@@ -1,5 +1,2 @@
-pub mod Hearing
-pub mod Credential
-pub mod Told
-pub mod Step
-pub mod Done
+pub mod Calls
+pub mod Steps

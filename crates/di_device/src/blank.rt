@@ -1,6 +1,5 @@
 ghost use Rattle.std.specs.Prelude.{◌≡◌, None, IsSome, MatchResult};
-ghost use Rattle.di_device.specs.Step.{StartStep};
-ghost use Rattle.di_device.specs.Told.{told, after};
+ghost use Rattle.di_device.specs.Steps.{Starts};
 
 use crate::app_start_sent::AppStartSent;
 use credential_store::CredentialStore;
@@ -28,7 +27,7 @@ impl<D: Disk> Blank<D> {
 
     /// Begins with DI.AppStart (10), which says what the device is. It is never refused.
     pub fn start(self, alloc: Global, info: MfgInfo) -> Next<AppStartSent<D>, CredentialStore<D>>
-        ensures step { StartStep info self.store (told result) (after (λ s. s.store) (λ s. s) result) }
+        ensures step { Starts (λ s. s.store) info self.store result }
     {
         let Blank { store } = self;
         let message = Msg::AppStart(info);

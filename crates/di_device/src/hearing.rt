@@ -1,7 +1,9 @@
-ghost use Rattle.std.specs.Prelude.{◌≡◌, Ok, IfOk};
-ghost use Rattle.fdo_msgs.specs.Kind.{error, di_done};
-ghost use Rattle.fdo_msgs.specs.Reading.{body_at};
-ghost use Rattle.di_device.specs.Hearing.{code_said, header_said, header_heard, done_said, done_heard};
+ghost use Rattle.std.specs.Prelude.{◌≡◌, Ok, IfOk, IfErr};
+ghost use Rattle.fdo_msgs.specs.Kind as kinds;
+ghost use Rattle.fdo_rules.specs.Checks.{code_in, peer_code, said_in};
+ghost use Rattle.fdo_rules.specs.Moves.{said_by};
+ghost use Rattle.fdo_rules.specs.Parts.{di_done, set_credentials};
+ghost use Rattle.di_device.specs.Steps.{IsAnswered};
 
 use cbor_core::NoMemory;
 use fdo_msgs::{BodyFault, Cause, Msg, Packet, kind, read_body};
@@ -9,9 +11,9 @@ use std::alloc::Global;
 use voucher_chain::Header;
 
 /// The header that a message gives where DI.SetCredentials is taken, or the first cause of its refusal.
-#[tactic(auto, unfolding(crate::specs::Hearing::header_heard))]
 pub(crate) fn hear_header(alloc: Global, packet: &Packet) -> Result<Result<Header, Cause>, NoMemory>
-    ensures { IfOk result (λ heard. heard ≡ header_heard packet.now) }
+    ensures heard { IfOk result (λ heard. heard ≡ said_by set_credentials kinds.set_credentials packet.now) }
+    ensures answered { IfOk result (λ heard. IfErr heard IsAnswered) }
 {
     match packet.kind {
         kind::ERROR => Ok(Err(Cause::Peer(peer_code(alloc, packet)?))),
@@ -27,29 +29,27 @@ pub(crate) fn hear_header(alloc: Global, packet: &Packet) -> Result<Result<Heade
 }
 
 fn header_of(message: Msg) -> Result<Header, Cause>
-    ensures { result ≡ header_said (Ok message) }
+    ensures header { result ≡ said_in set_credentials (Ok message) }
+    ensures answered { IfErr result IsAnswered }
 {
     match message {
         Msg::SetCredentials(header) => Ok(header),
         other => {
             drop(other);
-            Err(Cause::Turn(kind::SET_CREDENTIALS))
+            Err(Cause::Body(0))
         }
     }
 }
 
 /// Whether a message is DI.Done, or the first cause of its refusal where that is taken.
-#[tactic(auto, unfolding(crate::specs::Hearing::done_heard))]
 pub(crate) fn hear_done(alloc: Global, packet: &Packet) -> Result<Result<(), Cause>, NoMemory>
-    ensures { IfOk result (λ heard. heard ≡ done_heard packet.now) }
+    ensures heard { IfOk result (λ heard. heard ≡ said_by di_done kinds.di_done packet.now) }
+    ensures answered { IfOk result (λ heard. IfErr heard IsAnswered) }
 {
     match packet.kind {
         kind::ERROR => Ok(Err(Cause::Peer(peer_code(alloc, packet)?))),
         kind::DI_DONE => match read_body(alloc, kind::DI_DONE, packet.body.as_list()) {
-            Ok(message) => {
-                drop(message);
-                Ok(Ok(()))
-            }
+            Ok(message) => Ok(done_of(message)),
             Err(BodyFault::Body(place)) => Ok(Err(Cause::Body(place))),
             Err(BodyFault::NoMemory) => Err(NoMemory),
         },
@@ -57,9 +57,22 @@ pub(crate) fn hear_done(alloc: Global, packet: &Packet) -> Result<Result<(), Cau
     }
 }
 
+fn done_of(message: Msg) -> Result<(), Cause>
+    ensures done { result ≡ said_in di_done (Ok message) }
+    ensures answered { IfErr result IsAnswered }
+{
+    match message {
+        Msg::DiDone => Ok(()),
+        other => {
+            drop(other);
+            Err(Cause::Body(0))
+        }
+    }
+}
+
 /// The code of an error message, and 0 where its body is not of the form.
 fn peer_code(alloc: Global, packet: &Packet) -> Result<u16, NoMemory>
-    ensures { IfOk result (λ code. code ≡ code_said (body_at error packet.now.body)) }
+    ensures { IfOk result (λ code. code ≡ peer_code packet.now.body) }
 {
     match read_body(alloc, kind::ERROR, packet.body.as_list()) {
         Ok(message) => Ok(code_of(message)),
@@ -69,7 +82,7 @@ fn peer_code(alloc: Global, packet: &Packet) -> Result<u16, NoMemory>
 }
 
 fn code_of(message: Msg) -> u16
-    ensures { result ≡ code_said (Ok message) }
+    ensures { result ≡ code_in (Ok message) }
 {
     match message {
         Msg::Error {

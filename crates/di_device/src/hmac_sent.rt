@@ -1,5 +1,9 @@
-ghost use Rattle.std.specs.Prelude.{◌≡◌, IsSome};
-ghost use Rattle.di_device.specs.Done.{DoneStep, Keeps, Refuses};
+ghost use Rattle.std.specs.Prelude.{◌≡◌, Some, IfErr, IsSome};
+ghost use Rattle.voucher_chain.specs.declared.credential.Credential.{Credential};
+ghost use Rattle.fdo_rules.specs.DeviceDi.{HmacSent as Sent, by_done, committed, done_row};
+ghost use Rattle.fdo_rules.specs.Moves.{refused};
+ghost use Rattle.fdo_rules.specs.Row.{Row};
+ghost use Rattle.di_device.specs.Steps.{Finishes, IsAnswered};
 
 use crate::hearing::hear_done;
 use crate::replying::{reply_to, token_of};
@@ -19,29 +23,49 @@ pub struct HmacSent<D: Disk> {
 impl<D: Disk> HmacSent<D> {
     /// Ends the protocol: the credential is kept. Where the disk fails, the store is to be opened again from it, and holds no
     /// credential or this one.
+    #[tactic(auto, unfolding(fdo_rules::specs::DeviceDi::done_row))]
     pub fn on(
         self,
         alloc: Global,
         packet: &Packet,
     ) -> Last<CredentialStore<D>, CredentialStore<D>, D>
-        ensures step { DoneStep D.Disk packet.now self.store result }
+        // The credential that was reserved is the one that the device kept at DI.SetCredentials.
+        ensures step { (sent : Sent) → self.store.reserved ≡ Some sent.next → Finishes D.Disk (done_row sent packet.now) self.store result }
     {
         match hear_done(alloc, packet) {
-            Ok(Ok(())) => self.keep(alloc, packet),
-            Ok(Err(cause)) => self.refuse(alloc, cause, packet),
+            Ok(heard) => self.heard(alloc, packet, heard),
             Err(_) => Last::NoMemory(self.stop()),
+        }
+    }
+
+    /// At DI.Done, or with the first cause of a refusal.
+    fn heard(
+        self,
+        alloc: Global,
+        packet: &Packet,
+        heard: Result<(), Cause>,
+    ) -> Last<CredentialStore<D>, CredentialStore<D>, D>
+        requires answered { IfErr heard IsAnswered }
+        ensures step { (c : Credential) → self.store.reserved ≡ Some c → Finishes D.Disk (by_done packet.now c heard) self.store result }
+    {
+        match heard {
+            Ok(()) => self.keep(alloc, packet),
+            Err(cause) => self.refuse(alloc, cause, packet),
         }
     }
 
     /// At DI.Done. The error message for a disk that fails is made first.
     fn keep(self, alloc: Global, packet: &Packet) -> Last<CredentialStore<D>, CredentialStore<D>, D>
-        ensures step { Keeps D.Disk packet.now self.store result }
+        ensures step { (c : Credential) → self.store.reserved ≡ Some c → Finishes D.Disk (Row.Stores (Some c) (committed packet.now c)) self.store result }
     {
         match disk_error(alloc, packet) {
-            Ok(reply) => match self.stop().commit() {
-                Ok(store) => Last::Done(store),
-                Err(disk) => Last::Reopen { disk, reply },
-            },
+            Ok(reply) => {
+                let HmacSent { store } = self;
+                match store.commit() {
+                    Ok(store) => Last::Done(store),
+                    Err(disk) => Last::Reopen { disk, reply },
+                }
+            }
             Err(_) => Last::NoMemory(self.stop()),
         }
     }
@@ -53,7 +77,8 @@ impl<D: Disk> HmacSent<D> {
         cause: Cause,
         packet: &Packet,
     ) -> Last<CredentialStore<D>, CredentialStore<D>, D>
-        ensures step { Refuses D.Disk cause packet.now self.store result }
+        requires answered { IsAnswered cause }
+        ensures step { Finishes D.Disk (Row.Ends (refused packet.now cause)) self.store result }
     {
         match reply_to(alloc, &cause, packet) {
             Ok(reply) => Last::Stopped {

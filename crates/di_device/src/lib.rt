@@ -4,10 +4,10 @@
 
 pub mod app_start_sent;
 pub mod blank;
-mod coming;
 mod hearing;
 pub mod hmac_sent;
 mod replying;
+mod secret;
 
 pub use app_start_sent::AppStartSent;
 pub use blank::Blank;

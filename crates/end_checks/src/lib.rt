@@ -4,9 +4,11 @@
 pub mod bodies;
 pub mod hashes;
 pub mod leaf;
+pub mod made;
 pub mod signatures;
 
 pub use bodies::{read_hello, read_hello_rv, read_owner_sign, read_proof};
 pub use hashes::is_hash_of;
 pub use leaf::leaf_key;
+pub use made::{credential_of, hash_by, header_hmac, mac_by};
 pub use signatures::{verified, verified_by};
