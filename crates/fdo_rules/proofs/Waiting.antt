@@ -152,16 +152,16 @@ pub info : (o : OwnView) (packet : Packet) (s : OwnSession) (r : Result Informed
 info o packet s (Ok i) = tt
 info o packet s (Err e) = tt
 
-leaf : (factory : Factory) (s : FacView) (packet : Packet) (mfg : MfgInfo) (guid token : List ℕ) (r : Result (List ℕ) Failed) → WritesNothing (fac.with_leaf factory s packet mfg guid token r)
-leaf factory s packet mfg guid token (Ok certificate) = tt
-leaf factory s packet mfg guid token (Err _) = tt
+leaf : (known : Bool) (factory : Factory) (s : FacView) (packet : Packet) (mfg : MfgInfo) (guid token certificate : List ℕ) → WritesNothing (fac.with_leaf known factory s packet mfg guid token certificate)
+leaf true factory s packet mfg guid token certificate = tt
+leaf false factory s packet mfg guid token certificate = tt
 
-issues : (known : Bool) (factory : Factory) (s : FacView) (packet : Packet) (mfg : MfgInfo) (guid token : List ℕ) → WritesNothing (fac.if_issues known factory s packet mfg guid token)
-issues true factory s packet mfg guid token = leaf factory s packet mfg guid token
-issues false factory s packet mfg guid token = tt
+issued : (known : Bool) (factory : Factory) (s : FacView) (packet : Packet) (mfg : MfgInfo) (guid token : List ℕ) (r : Result (List ℕ) Failed) → WritesNothing (fac.issued known factory s packet mfg guid token r)
+issued known factory s packet mfg guid token (Ok certificate) = leaf known factory s packet mfg guid token certificate
+issued known factory s packet mfg guid token (Err _) = tt
 
 fac_token : (suite : Suite) (factory : Factory) (s : FacView) (packet : Packet) (mfg : MfgInfo) (guid : List ℕ) (r : Result (List ℕ) Failed) → WritesNothing (fac.with_token suite factory s packet mfg guid r)
-fac_token suite factory s packet mfg guid (Ok token) = issues _ factory s packet mfg guid token
+fac_token suite factory s packet mfg guid (Ok token) = issued _ factory s packet mfg guid token
 fac_token suite factory s packet mfg guid (Err _) = tt
 
 fac_guid : (suite : Suite) (factory : Factory) (s : FacView) (packet : Packet) (mfg : MfgInfo) (r : Result (List ℕ) Failed) → WritesNothing (fac.with_guid suite factory s packet mfg r)

@@ -72,17 +72,19 @@ abbrev pub offers : FacView → Packet → List ℕ → Offered → FacRow
 offers s packet token offer =
     Row.Ends (with_sessions s (begun packet token offer s.sessions), reply (Some (bearer_token token)) kind.set_credentials (body_of (msg.SetCredentials offer.header)))
 
-abbrev pub with_leaf : Factory → FacView → Packet → MfgInfo → List ℕ → List ℕ → Result (List ℕ) Failed → FacRow
-with_leaf factory s packet info guid token (Ok leaf) = offers s packet token (record { header = header_for factory guid info leaf; chain = leaf ∷ [] })
-with_leaf factory s packet info guid token (Err _) = refuses s packet (cause.Outside object.Signer)
+-- with a certificate, where the suite issues one for the key
+abbrev pub with_leaf : Bool → Factory → FacView → Packet → MfgInfo → List ℕ → List ℕ → List ℕ → FacRow
+with_leaf true factory s packet info guid token leaf = offers s packet token (record { header = header_for factory guid info leaf; chain = leaf ∷ [] })
+with_leaf false factory s packet info guid token leaf = refuses s packet no_algorithm
 
--- a certificate is issued, where the suite can
-abbrev pub if_issues : Bool → Factory → FacView → Packet → MfgInfo → List ℕ → List ℕ → FacRow
-if_issues true factory s packet info guid token = Row.Issues (key_bytes (device_key info)) (with_leaf factory s packet info guid token)
-if_issues false factory s packet info guid token = refuses s packet no_algorithm
+-- a call that fails says nothing of the key
+abbrev pub issued : Bool → Factory → FacView → Packet → MfgInfo → List ℕ → List ℕ → Result (List ℕ) Failed → FacRow
+issued known factory s packet info guid token (Ok leaf) = with_leaf known factory s packet info guid token leaf
+issued known factory s packet info guid token (Err _) = refuses s packet (cause.Outside object.Signer)
 
 abbrev pub with_token : Suite → Factory → FacView → Packet → MfgInfo → List ℕ → Result (List ℕ) Failed → FacRow
-with_token suite factory s packet info guid (Ok token) = if_issues (suite.issues (key_bytes (device_key info))) factory s packet info guid token
+with_token suite factory s packet info guid (Ok token) =
+    Row.Issues (key_bytes (device_key info)) (issued (suite.issues (key_bytes (device_key info))) factory s packet info guid token)
 with_token suite factory s packet info guid (Err _) = refuses s packet (cause.Outside object.Random)
 
 abbrev pub with_guid : Suite → Factory → FacView → Packet → MfgInfo → Result (List ℕ) Failed → FacRow
