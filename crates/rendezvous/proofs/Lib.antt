@@ -1,1 +1,3 @@
-pub mod Wanting
+pub mod GivingUp
+pub mod Leaving
+pub mod Touching

@@ -1,3 +1,2 @@
-pub mod Receiving
+pub mod Carrying
 pub mod RvState
-pub mod RvStep

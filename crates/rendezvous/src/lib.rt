@@ -2,9 +2,14 @@
 //! finds its owner (TO1).
 #![tactic(auto)]
 
-pub mod received;
+mod carrying;
+mod judging;
 pub mod rv_handler;
 pub mod server;
+mod to0;
+mod to0_checks;
+mod to1;
+mod verdict;
 
 pub use rv_handler::RvHandler;
 pub use server::Server;
