@@ -1,0 +1,6 @@
+pub mod Entering
+pub mod Placing
+pub mod Opening
+pub mod ReplayLaws
+pub mod Imaging
+pub mod Rooms

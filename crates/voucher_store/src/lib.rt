@@ -1,0 +1,20 @@
+//! The vouchers of a party on a disk: a journal of snapshots and of records, each of which says one change of the map.
+#![tactic(auto)]
+
+mod applying;
+mod bodies;
+pub mod change;
+mod entry;
+pub mod fault;
+pub mod image;
+pub mod map;
+mod parts;
+mod records;
+mod replaying;
+mod size;
+mod snapshot;
+
+pub use change::Change;
+pub use fault::ImageFault;
+pub use image::read_image;
+pub use map::VoucherMap;
