@@ -4,3 +4,5 @@ pub mod Opening
 pub mod ReplayLaws
 pub mod Imaging
 pub mod Rooms
+pub mod Leaves
+pub mod ChangeBack

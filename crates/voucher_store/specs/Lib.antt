@@ -4,5 +4,6 @@ pub mod Snapshot
 pub mod Entries
 pub mod Places
 pub mod Records
+pub mod Writing
 pub mod Image
 pub mod Bodies

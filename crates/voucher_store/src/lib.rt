@@ -13,8 +13,10 @@ mod records;
 mod replaying;
 mod size;
 mod snapshot;
+pub mod writing;
 
 pub use change::Change;
 pub use fault::ImageFault;
 pub use image::read_image;
 pub use map::VoucherMap;
+pub use writing::record_body;
