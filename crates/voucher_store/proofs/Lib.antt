@@ -6,3 +6,4 @@ pub mod Imaging
 pub mod Rooms
 pub mod Leaves
 pub mod ChangeBack
+pub mod SnapshotBack

@@ -1,5 +1,6 @@
 -- What is written: snapshots of version 2, and records.
-use Rattle.std.specs.Prelude.{◌≡◌, ◌⊎◌, ◌<◌, ◌^◌, ℕ, pos, List, [], ◌∷◌, length, map, Option, Some, None}
+use Rattle.std.specs.Prelude.{◌≡◌, ◌⊎◌, ◌<◌, ◌≤◌, ◌^◌, ℕ, pos, List, [], ◌∷◌, ◌++◌, length, map, true, Option, Some, None}
+use Rattle.voucher_store.specs.Snapshot.{is_new}
 use Rattle.cbor_core.specs.declared.item.Item.{Item}
 use Rattle.cbor_core.specs.declared.item.Item.TheVariants as items
 use Rattle.cbor_core.specs.Deterministic.{det}
@@ -57,3 +58,37 @@ HasSizes (change.Import voucher) = length voucher.raw < 2 ^ 64
 HasSizes (change.Candidate guid voucher) = (length guid ≡ 16) × (length voucher.raw < 2 ^ 64)
 HasSizes (change.Promotion guid) = length guid ≡ 16
 HasSizes (change.Export guid voucher) = (length guid ≡ 16) × (length voucher.raw < 2 ^ 64)
+
+-- ---- which entries can be read again
+
+-- the bytes of a voucher spell it, and its HMAC is one with SHA-256 (5) or with SHA-384 (6)
+pub record IsSound (voucher : Voucher) : Type 0 where
+  pub spelt : IsVoucher voucher.raw voucher
+  pub kind : (voucher.hmac.kind ≡ pos 5) ⊎ (voucher.hmac.kind ≡ pos 6)
+
+abbrev pub IsSoundCandidate : Option Voucher → Type 0
+IsSoundCandidate None = Unit {0}
+IsSoundCandidate (Some voucher) = IsVoucher voucher.raw voucher
+
+abbrev pub IsSoundEntry : Kept → Type 0
+IsSoundEntry (kept.Held base candidate) = IsSound base × IsSoundCandidate candidate
+IsSoundEntry (kept.Sent voucher) = IsSound voucher
+
+-- sound entries behind others, of which none has the GUID of one before it
+abbrev pub AreSound : List Kept → List Kept → Type 0
+AreSound before [] = Unit {0}
+AreSound before (entry ∷ entries) = IsSoundEntry entry × (is_new before entry ≡ true) × AreSound (before ++ entry ∷ []) entries
+
+-- a map that can be kept
+pub record IsMap (entries : List Kept) : Type 0 where
+  pub sound : AreSound [] entries
+  pub few : length entries ≤ 4096
+
+-- what holds of any entry in memory
+abbrev pub CandidateHasSize : Option Voucher → Type 0
+CandidateHasSize None = Unit {0}
+CandidateHasSize (Some voucher) = length voucher.raw < 2 ^ 64
+
+abbrev pub EntryHasSizes : Kept → Type 0
+EntryHasSizes (kept.Held base candidate) = (length base.raw < 2 ^ 64) × CandidateHasSize candidate
+EntryHasSizes (kept.Sent voucher) = length voucher.raw < 2 ^ 64

@@ -19,4 +19,4 @@ pub use change::Change;
 pub use fault::ImageFault;
 pub use image::read_image;
 pub use map::VoucherMap;
-pub use writing::record_body;
+pub use writing::{record_body, snapshot_body};
