@@ -7,3 +7,4 @@ pub mod Rooms
 pub mod Leaves
 pub mod ChangeBack
 pub mod SnapshotBack
+pub mod GuidLaws

@@ -4,7 +4,7 @@ use Rattle.std.specs.List.{AllByRecursion}
 use Rattle.std.specs.Ordering.{int_eq}
 use Rattle.std.specs.Str.{bytes_eq, is_utf8, IsAscii}
 use Rattle.std.proofs.lemmas.Str.{is_utf8-from_IsUtf8, IsUtf8-from_ascii}
-use Rattle.std.proofs.lemmas.Bool.{lt-ltb}
+use Rattle.std.proofs.lemmas.Bool.{lt-ltb, cases_Bool}
 use Rattle.std.proofs.lemmas.Bool.Decides.{Decides-int_eq}
 use Rattle.std.proofs.lemmas.List.{append-nil, length-append}
 use Rattle.std.proofs.lemmas.Slice.Eq.{bytes_eq-Decides}
@@ -21,6 +21,11 @@ use Rattle.cbor_core.proofs.NormLaws.{norm_uint, norm_bytes, norm_array, norm_in
 use Rattle.voucher_chain.specs.Reading.{IsVoucher, IsInMemory}
 use Rattle.voucher_chain.specs.declared.voucher.Voucher.{Voucher}
 use Rattle.voucher_chain.proofs.BackLaws.{norm_null, of_layer}
+use Rattle.hash_hmac.specs.declared.hash.Hash.{Hash}
+use Rattle.key_codec.specs.Fault.{ok_of}
+use Rattle.key_codec.specs.Hash.{hash_in}
+use Rattle.voucher_chain.specs.Voucher.{is_mac, mac_if}
+use Rattle.voucher_chain.proofs.Seen.{bind_some, guard_some, some_is, seen_is}
 use Rattle.voucher_map.specs.declared.kept.Kept.{Kept}
 use Rattle.voucher_map.specs.declared.kept.Kept.TheVariants as kept
 use Rattle.voucher_store.specs.Read.{◌>>=◌, det_at}
@@ -37,6 +42,20 @@ sizes_more (x ∷ front) e h size = (h.0, sizes_more front e h.1 size)
 
 -- ---- it is fit to be written
 
+-- the kind of an HMAC that was read
+mac_kind : (k : ℤ) → is_mac k ≡ true → (k ≡ pos 5) ⊎ (k ≡ pos 6)
+mac_kind k is = elim (cases_Bool (int_eq k (pos 5))) [
+  | inl five ↦ inl ((Decides-int_eq k (pos 5)).0 five)
+  | inr other ↦ inr ((Decides-int_eq k (pos 6)).0 (sym (ap (λ t. t || int_eq k (pos 6)) other) ∙ is))
+]
+
+pub known_kind : (v : Voucher) → IsSound v → (v.hmac.kind ≡ pos 5) ⊎ (v.hmac.kind ≡ pos 6)
+known_kind v sound =
+    let seen = seen_is (start v.raw) v sound.shown.shows in
+    let p = bind_some (ok_of (hash_in (spot_item seen.parts.2))) mac_if v.hmac seen.hmac in
+    let g = guard_some (is_mac p.0.kind) (Some p.0) v.hmac p.2 in
+    mac_kind v.hmac.kind (ap (λ (h : Hash). is_mac h.kind) (sym (some_is p.0 v.hmac g.1)) ∙ g.0)
+
 known_small : (k : ℤ) → (k ≡ pos 5) ⊎ (k ≡ pos 6) → IsI64 k
 known_small k (inl is) = subst IsI64 (sym is) (lit< tt)
 known_small k (inr is) = subst IsI64 (sym is) (lit< tt)
@@ -51,10 +70,10 @@ candidate_fit n (Some v) h = fit_bytes n v.raw h
 entry_fit : (n : ℕ) (e : Kept) → EntryHasSizes e → IsSoundEntry e → IsFitWithin (suc (suc n)) (item_of_entry e)
 entry_fit n (kept.Held b c) h sound =
     fit_array (suc n) (items.Uint 0 ∷ item_of_kind b ∷ items.Bytes b.raw ∷ item_of_candidate c ∷ []) (lit< tt)
-    (fit_uint n 0 (lit< tt), (fit_integer n b.hmac.kind (known_small b.hmac.kind sound.0.kind), (fit_bytes n b.raw h.0, (candidate_fit n c h.1, tt))))
+    (fit_uint n 0 (lit< tt), (fit_integer n b.hmac.kind (known_small b.hmac.kind (known_kind b sound.0)), (fit_bytes n b.raw h.0, (candidate_fit n c h.1, tt))))
 entry_fit n (kept.Sent v) h sound =
     fit_array (suc n) (items.Uint 1 ∷ item_of_kind v ∷ items.Bytes v.raw ∷ []) (lit< tt)
-    (fit_uint n 1 (lit< tt), (fit_integer n v.hmac.kind (known_small v.hmac.kind sound.kind), (fit_bytes n v.raw h, tt)))
+    (fit_uint n 1 (lit< tt), (fit_integer n v.hmac.kind (known_small v.hmac.kind (known_kind v sound)), (fit_bytes n v.raw h, tt)))
 
 entries_fit : (n : ℕ) (before es : List Kept) → AllByRecursion EntryHasSizes es → AreSound before es → AllByRecursion (IsFitWithin (suc (suc n))) (map item_of_entry es)
 entries_fit n before [] h sound = tt
@@ -127,9 +146,9 @@ by_parts : (n : ℕ) (v : Voucher) (k a : Spot) (candidate : Option Spot) → Le
     → entry_by (record { kind = Some k; first = a; candidate = candidate }) ≡ kept_with v candidate
 by_parts n v k a candidate at_k at_a sound =
     let parts : EntrySpots = record { kind = Some k; first = a; candidate = candidate } in
-    ap (λ t. if t then voucher_inside a >>= kept_by parts else Err (kind_place parts)) (kind_back n k v.hmac.kind at_k sound.kind)
-    ∙ ap (λ r. r >>= kept_by parts) (voucher_back n a v at_a sound.spelt)
-    ∙ ap (λ t. if t then kept_with v candidate else Err (kind_place parts)) (own_kind n k v at_k sound.kind)
+    ap (λ t. if t then voucher_inside a >>= kept_by parts else Err (kind_place parts)) (kind_back n k v.hmac.kind at_k (known_kind v sound))
+    ∙ ap (λ r. r >>= kept_by parts) (voucher_back n a v at_a sound)
+    ∙ ap (λ t. if t then kept_with v candidate else Err (kind_place parts)) (own_kind n k v at_k (known_kind v sound))
 
 entry_back : (n : ℕ) (s : Spot) (e : Kept) → Leaf n (item_of_entry e) s → IsSoundEntry e → entry_at false s ≡ Ok e
 unfolding entry_at

@@ -1,5 +1,5 @@
 -- What is written: snapshots of version 2, and records.
-use Rattle.std.specs.Prelude.{◌≡◌, ◌⊎◌, ◌<◌, ◌≤◌, ◌^◌, ℕ, pos, List, [], ◌∷◌, ◌++◌, length, map, true, Option, Some, None}
+use Rattle.std.specs.Prelude.{◌≡◌, ◌<◌, ◌≤◌, ◌^◌, ℕ, pos, List, [], ◌∷◌, ◌++◌, length, map, true, Option, Some, None}
 use Rattle.voucher_store.specs.Snapshot.{is_new}
 use Rattle.cbor_core.specs.declared.item.Item.{Item}
 use Rattle.cbor_core.specs.declared.item.Item.TheVariants as items
@@ -61,14 +61,13 @@ HasSizes (change.Export guid voucher) = (length guid ≡ 16) × (length voucher.
 
 -- ---- which entries can be read again
 
--- the bytes of a voucher spell it, and its HMAC is one with SHA-256 (5) or with SHA-384 (6)
-pub record IsSound (voucher : Voucher) : Type 0 where
-  pub spelt : IsVoucher voucher.raw voucher
-  pub kind : (voucher.hmac.kind ≡ pos 5) ⊎ (voucher.hmac.kind ≡ pos 6)
+-- the bytes of a voucher spell it
+abbrev pub IsSound : Voucher → Type 0
+IsSound voucher = IsVoucher voucher.raw voucher
 
 abbrev pub IsSoundCandidate : Option Voucher → Type 0
 IsSoundCandidate None = Unit {0}
-IsSoundCandidate (Some voucher) = IsVoucher voucher.raw voucher
+IsSoundCandidate (Some voucher) = IsSound voucher
 
 abbrev pub IsSoundEntry : Kept → Type 0
 IsSoundEntry (kept.Held base candidate) = IsSound base × IsSoundCandidate candidate
