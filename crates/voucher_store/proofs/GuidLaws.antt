@@ -27,11 +27,11 @@ or_assoc : (a b c : Bool) → (a || (b || c)) ≡ ((a || b) || c)
 or_assoc true b c = refl
 or_assoc false b c = refl
 
-left_or : (a b : Bool) → a ≡ true → (a || b) ≡ true
+pub left_or : (a b : Bool) → a ≡ true → (a || b) ≡ true
 left_or true b is = refl
 left_or false b is = absurd (false≢true is)
 
-right_or : (a b : Bool) → b ≡ true → (a || b) ≡ true
+pub right_or : (a b : Bool) → b ≡ true → (a || b) ≡ true
 right_or true b is = refl
 right_or false b is = is
 

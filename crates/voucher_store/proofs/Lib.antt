@@ -8,3 +8,4 @@ pub mod Leaves
 pub mod ChangeBack
 pub mod SnapshotBack
 pub mod GuidLaws
+pub mod ChangeLaws
