@@ -9,3 +9,4 @@ pub mod ChangeBack
 pub mod SnapshotBack
 pub mod GuidLaws
 pub mod ChangeLaws
+pub mod Sounds

@@ -2,6 +2,7 @@ ghost use Rattle.std.specs.Prelude.{◌≡◌, Ok, IfOk, IfErr};
 ghost use Rattle.voucher_store.specs.Read.{Reads, Blames, det_at, IsOpened, IsCut};
 ghost use Rattle.voucher_store.specs.Records.{change_at};
 ghost use Rattle.voucher_store.specs.Snapshot.{snapshot_at};
+ghost use Rattle.voucher_store.specs.Writing.{IsSpelt, IsMap};
 
 use crate::change::Change;
 use crate::fault::ImageFault;
@@ -48,6 +49,7 @@ fn cbor_fault(fault: CborFault) -> ImageFault
 #[tactic(auto, using(crate::proofs::Opening::said_opened, crate::proofs::Opening::over_opened, crate::proofs::Opening::blamed_opened, crate::proofs::Opening::blamed_cut))]
 pub(crate) fn read_record(alloc: Global, body: &[u8]) -> Result<Change, ImageFault>
     ensures ok { IfOk result (λ change. det_at change_at body.now ≡ Ok change) }
+    ensures spelt { IfOk result IsSpelt }
     ensures err { IfErr result (Blames (det_at change_at body.now)) }
 {
     match open_body(alloc, body) {
@@ -69,6 +71,7 @@ pub(crate) fn read_record(alloc: Global, body: &[u8]) -> Result<Change, ImageFau
 #[tactic(auto, using(crate::proofs::Opening::said_opened, crate::proofs::Opening::over_opened, crate::proofs::Opening::blamed_opened, crate::proofs::Opening::blamed_cut))]
 pub(crate) fn read_entries(alloc: Global, body: &[u8]) -> Result<Vec<Kept>, ImageFault>
     ensures ok { IfOk result (λ entries. det_at snapshot_at body.now ≡ Ok entries.items) }
+    ensures kept { IfOk result (λ entries. IsMap entries.items) }
     ensures err { IfErr result (Blames (det_at snapshot_at body.now)) }
 {
     match open_body(alloc, body) {

@@ -2,6 +2,7 @@ ghost use Rattle.std.specs.Prelude.{◌≡◌, pos, None, Some, option_map, IfOk
 ghost use Rattle.voucher_store.specs.Read.{Reads, Blames};
 ghost use Rattle.voucher_store.specs.Snapshot.{EntrySpots, first_spots_by, second_spots_by, entry_spots, is_kind, is_kind_of, kind_place, kept_by, entry_by, entry_at, held_spots, sent_spots};
 ghost use Rattle.voucher_store.specs.Entries.{spots_of};
+ghost use Rattle.voucher_store.specs.Writing.{IsSound, IsSoundEntry};
 ghost use Rattle.cbor_core.specs.Shapes.{two_spots, three_spots, four_spots};
 
 use crate::fault::ImageFault;
@@ -25,7 +26,8 @@ pub(crate) struct EntryParts<'a> {
 /// An entry of version 1, or of version 2.
 #[tactic(auto, unfolding(crate::specs::Snapshot::entry_at))]
 pub(crate) fn read_entry(alloc: Global, old: bool, part: &Part) -> Result<Kept, ImageFault>
-    ensures { Reads (entry_at old part.now.spot) result }
+    ensures read { Reads (entry_at old part.now.spot) result }
+    ensures sound { IfOk result IsSoundEntry }
 {
     match entry_parts(old, part) {
         Ok(parts) => read_parts(alloc, &parts),
@@ -146,7 +148,8 @@ fn kind_fault(parts: &EntryParts) -> ImageFault
 }
 
 fn read_parts(alloc: Global, parts: &EntryParts) -> Result<Kept, ImageFault>
-    ensures { Reads (entry_by (spots_of parts.now)) result }
+    ensures read { Reads (entry_by (spots_of parts.now)) result }
+    ensures sound { IfOk result IsSoundEntry }
 {
     if !is_kind(&parts.kind) {
         return Err(kind_fault(parts));
@@ -158,7 +161,9 @@ fn read_parts(alloc: Global, parts: &EntryParts) -> Result<Kept, ImageFault>
 }
 
 fn read_kept(alloc: Global, parts: &EntryParts, voucher: Voucher) -> Result<Kept, ImageFault>
-    ensures { Reads (kept_by (spots_of parts.now) voucher) result }
+    requires { IsSound voucher }
+    ensures read { Reads (kept_by (spots_of parts.now) voucher) result }
+    ensures sound { IfOk result IsSoundEntry }
 {
     if !is_kind_of(&voucher, &parts.kind) {
         return Err(kind_fault(parts));

@@ -1,6 +1,7 @@
 ghost use Rattle.std.specs.Prelude.{◌≡◌, ◌+◌, ◌<◌, ◌^◌, [], Some, Ok, IfOk, IfErr, length};
 ghost use Rattle.journal.specs.Found.{standing_read, IsWithin};
 ghost use Rattle.voucher_store.specs.Read.{Reads, Blames};
+ghost use Rattle.voucher_store.specs.Writing.{IsMap};
 ghost use Rattle.voucher_store.specs.Image.{candidates, goes_on, checked, bodies_in, map_in, map_of};
 ghost use Rattle.voucher_store.specs.Bodies.{bodies_of};
 
@@ -17,9 +18,11 @@ use voucher_map::entries::candidate_in;
 /// The vouchers that the bytes of a voucher file stand for, of a store with a limit; none, where no area is open. Nothing is
 /// written. `Foreign` comes exactly where they stand for no map, with the offset of the first fault; its only other refusal is
 /// `NoMemory`.
-#[tactic(auto, unfolding(crate::specs::Image::map_of))]
+#[tactic(auto, using(crate::proofs::Sounds::no_map), unfolding(crate::specs::Image::map_of))]
 pub fn read_image(alloc: Global, limit: u32, image: &[u8]) -> Result<VoucherMap, ImageFault>
-    ensures { Reads (map_of limit image.now) result }
+    ensures read { Reads (map_of limit image.now) result }
+    // What is read can be kept again.
+    ensures kept { IfOk result IsMap }
 {
     let areas = Areas::for_limit(limit);
     match areas.found(image) {
@@ -38,7 +41,8 @@ fn read_found(
 ) -> Result<VoucherMap, ImageFault>
     requires within { IsWithin areas found.now }
     requires small { areas.room < 2 ^ 62 }
-    ensures { Reads (map_in areas limit (Some (standing_read areas found.now))) result }
+    ensures read { Reads (map_in areas limit (Some (standing_read areas found.now))) result }
+    ensures kept { IfOk result IsMap }
 {
     let base = areas.base(found.side);
     match read_bodies(alloc, base + 13, found) {
@@ -61,6 +65,7 @@ fn read_bodies(alloc: Global, place: u64, found: &OpenArea) -> Result<Vec<Kept>,
     requires { place + (length found.now.snapshot.now + length found.now.records.now) < 2 ^ 64 }
     ensures ok { IfOk result (λ entries. bodies_in place (bodies_of place found.now) ≡ Ok entries.items) }
     ensures err { IfErr result (Blames (bodies_in place (bodies_of place found.now))) }
+    ensures kept { IfOk result (λ entries. IsMap entries.items) }
 {
     match read_entries(alloc, found.snapshot) {
         Ok(entries) => {
@@ -82,7 +87,9 @@ fn check(
     records: RecordsEnd,
     entries: Vec<Kept>,
 ) -> Result<VoucherMap, ImageFault>
-    ensures { Reads (checked limit end records.place records.one entries.items) result }
+    requires { IsMap entries.items }
+    ensures read { Reads (checked limit end records.place records.one entries.items) result }
+    ensures kept { IfOk result IsMap }
 {
     if records.one || !has_room(records.place, end, entries.as_slice()) {
         return Err(ImageFault::Foreign(records.place));

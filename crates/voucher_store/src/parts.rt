@@ -1,4 +1,5 @@
-ghost use Rattle.std.specs.Prelude.{◌≡◌, [], IfOk, IfErr};
+ghost use Rattle.std.specs.Prelude.{◌≡◌, [], IfOk, IfErr, IfSome};
+ghost use Rattle.voucher_store.specs.Writing.{IsSound, IsSoundCandidate};
 ghost use Rattle.cbor_core.specs.declared.item.Item.{out-Item};
 ghost use Rattle.cbor_core.specs.Shapes.{is_number};
 ghost use Rattle.cbor_core.specs.Numbers.{integer_in};
@@ -34,8 +35,10 @@ ghost use Rattle.voucher_store.specs.declared.fault.ImageFault.TheVariants as im
 ghost use Rattle.std.specs.Prelude.{Some, None, Option};
 
 /// The voucher that bytes spell, where they spell one.
+#[tactic(auto, using(crate::proofs::Sounds::sound_is))]
 fn read_bytes(alloc: Global, bytes: &[u8]) -> Result<Option<Voucher>, ImageFault>
     ensures read { IfOk result (λ voucher. voucher ≡ read_voucher_of (voucher_at bytes.now)) }
+    ensures sound { IfOk result (λ voucher. IfSome voucher IsSound) }
     ensures no_memory { IfErr result (λ fault. fault ≡ image.NoMemory) }
 {
     match read_voucher(alloc, bytes) {
@@ -47,7 +50,8 @@ fn read_bytes(alloc: Global, bytes: &[u8]) -> Result<Option<Voucher>, ImageFault
 
 /// The voucher in a byte string.
 pub(crate) fn read_voucher_part(alloc: Global, part: &Part) -> Result<Voucher, ImageFault>
-    ensures { Reads (voucher_inside part.now.spot) result }
+    ensures read { Reads (voucher_inside part.now.spot) result }
+    ensures sound { IfOk result IsSound }
 {
     let Some(bytes) = part.bytes(alloc)? else {
         return Err(fault_at(part));
@@ -61,7 +65,8 @@ pub(crate) fn read_voucher_part(alloc: Global, part: &Part) -> Result<Voucher, I
 
 /// A voucher, or null.
 pub(crate) fn read_candidate(alloc: Global, part: &Part) -> Result<Option<Voucher>, ImageFault>
-    ensures { Reads (candidate_inside part.now.spot) result }
+    ensures read { Reads (candidate_inside part.now.spot) result }
+    ensures sound { IfOk result IsSoundCandidate }
 {
     if part.is_null() {
         return Ok(None);

@@ -1,4 +1,5 @@
-ghost use Rattle.std.specs.Prelude.{◌≡◌};
+ghost use Rattle.std.specs.Prelude.{◌≡◌, IfOk};
+ghost use Rattle.voucher_store.specs.Writing.{IsSpelt};
 ghost use Rattle.voucher_store.specs.Read.{Reads};
 ghost use Rattle.voucher_store.specs.Records.{change_of_two, change_of_three, change_at};
 
@@ -11,7 +12,8 @@ use std::alloc::Global;
 /// The change that a record says.
 #[tactic(auto, unfolding(crate::specs::Records::change_at))]
 pub(crate) fn read_change(alloc: Global, part: &Part) -> Result<Change, ImageFault>
-    ensures { Reads (change_at part.now.spot) result }
+    ensures read { Reads (change_at part.now.spot) result }
+    ensures spelt { IfOk result IsSpelt }
 {
     if let Some((number, only)) = part.two() {
         return read_two(alloc, &number, &only);
@@ -23,7 +25,8 @@ pub(crate) fn read_change(alloc: Global, part: &Part) -> Result<Change, ImageFau
 }
 
 fn read_two(alloc: Global, number: &Part, part: &Part) -> Result<Change, ImageFault>
-    ensures { Reads (change_of_two number.now.spot part.now.spot) result }
+    ensures read { Reads (change_of_two number.now.spot part.now.spot) result }
+    ensures spelt { IfOk result IsSpelt }
 {
     if is_number(number, 0) {
         return match read_voucher_part(alloc, part) {
@@ -46,7 +49,8 @@ fn read_three(
     guid: &Part,
     voucher: &Part,
 ) -> Result<Change, ImageFault>
-    ensures { Reads (change_of_three number.now.spot guid.now.spot voucher.now.spot) result }
+    ensures read { Reads (change_of_three number.now.spot guid.now.spot voucher.now.spot) result }
+    ensures spelt { IfOk result IsSpelt }
 {
     let candidate = is_number(number, 1);
     if !(candidate || is_number(number, 3)) {

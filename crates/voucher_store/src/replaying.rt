@@ -1,6 +1,7 @@
 ghost use Rattle.std.specs.Prelude.{◌≡◌, ◌+◌, ◌<◌, ◌^◌, Ok, OnOk, IfErr, length};
 ghost use Rattle.journal.specs.Records.{walk};
 ghost use Rattle.voucher_store.specs.Read.{Blames};
+ghost use Rattle.voucher_store.specs.Writing.{IsMap};
 ghost use Rattle.voucher_store.specs.Records.{record_in, records_in};
 
 use crate::applying::apply;
@@ -19,9 +20,11 @@ pub(crate) fn replay(
     place: u64,
     records: &[u8],
 ) -> Result<(), ImageFault>
-    requires { place + length records.now < 2 ^ 64 }
+    requires place { place + length records.now < 2 ^ 64 }
+    requires kept { IsMap entries.old.items }
     ensures ok { OnOk result (records_in place entries.old.items (walk (length records.now) place records.now).bodies ≡ Ok entries.new.items) }
     ensures err { IfErr result (Blames (records_in place entries.old.items (walk (length records.now) place records.now).bodies)) }
+    ensures kept { OnOk result (IsMap entries.new.items) }
 {
     let mut at = place;
     let mut rest = records;
@@ -42,14 +45,16 @@ pub(crate) fn replay(
 }
 
 /// Makes the change that one record says, which begins at an offset in the file.
-#[tactic(auto, using(crate::proofs::ReplayLaws::record_done, crate::proofs::ReplayLaws::record_nothing, crate::proofs::ReplayLaws::record_cut))]
+#[tactic(auto, using(crate::proofs::ReplayLaws::record_done, crate::proofs::ReplayLaws::record_nothing, crate::proofs::ReplayLaws::record_cut, crate::proofs::Sounds::applied_map))]
 fn replay_one(
     alloc: Global,
     entries: &mut Vec<Kept>,
     place: u64,
     body: &[u8],
 ) -> Result<(), ImageFault>
+    requires { IsMap entries.old.items }
     ensures ok { OnOk result (record_in place entries.old.items body.now ≡ Ok entries.new.items) }
+    ensures kept { OnOk result (IsMap entries.new.items) }
     ensures err { IfErr result (Blames (record_in place entries.old.items body.now)) }
 {
     match read_record(alloc, body) {

@@ -1,7 +1,8 @@
-ghost use Rattle.std.specs.Prelude.{◌≡◌, pos, Ok, IfOk, IfErr, OnOk, length};
+ghost use Rattle.std.specs.Prelude.{◌≡◌, ◌<◌, pos, Ok, IfOk, IfErr, OnOk, length};
 ghost use Rattle.cbor_core.specs.Spots.{spot_parts};
 ghost use Rattle.voucher_map.specs.Map.{voucher_of, candidate_in};
 ghost use Rattle.voucher_store.specs.Read.{Reads, Blames};
+ghost use Rattle.voucher_store.specs.Writing.{IsSoundEntry, IsMap};
 ghost use Rattle.voucher_store.specs.Snapshot.{is_new_candidate, is_new as is_new_entry, one_more, with_new, entries_from, entries_at, is_word as is_the_word, ended_by, snapshot_at};
 ghost use Rattle.std.specs.Option.{option_copied};
 ghost use Rattle.cbor_core.specs.declared.item.Item.{out-Item};
@@ -23,6 +24,7 @@ pub(crate) const MOST: usize = 4096;
 #[tactic(auto, unfolding(crate::specs::Snapshot::snapshot_at))]
 pub(crate) fn read_snapshot(alloc: Global, part: &Part) -> Result<Vec<Kept>, ImageFault>
     ensures ok { IfOk result (λ entries. snapshot_at part.now.spot ≡ Ok entries.items) }
+    ensures kept { IfOk result (λ entries. IsMap entries.items) }
     ensures err { IfErr result (Blames (snapshot_at part.now.spot)) }
 {
     let Some((version, entries, word)) = part.three() else {
@@ -40,7 +42,9 @@ pub(crate) fn read_snapshot(alloc: Global, part: &Part) -> Result<Vec<Kept>, Ima
 
 /// The word behind the entries.
 fn end_entries(alloc: Global, word: &Part, entries: Vec<Kept>) -> Result<Vec<Kept>, ImageFault>
+    requires { IsMap entries.items }
     ensures ok { IfOk result (λ all. ended_by word.now.spot entries.items ≡ Ok all.items) }
+    ensures kept { IfOk result (λ all. IsMap all.items) }
     ensures err { IfErr result (Blames (ended_by word.now.spot entries.items)) }
 {
     if is_word(alloc, word)? {
@@ -61,6 +65,7 @@ fn is_word(alloc: Global, part: &Part) -> Result<bool, NoMemory>
 
 fn read_entries(alloc: Global, old: bool, part: &Part) -> Result<Vec<Kept>, ImageFault>
     ensures ok { IfOk result (λ entries. entries_at old part.now.spot ≡ Ok entries.items) }
+    ensures kept { IfOk result (λ entries. IsMap entries.items) }
     ensures err { IfErr result (Blames (entries_at old part.now.spot)) }
 {
     if part.is_array() {
@@ -70,11 +75,12 @@ fn read_entries(alloc: Global, old: bool, part: &Part) -> Result<Vec<Kept>, Imag
     }
 }
 
-ghost use Rattle.std.specs.Prelude.{[]};
+ghost use Rattle.std.specs.Prelude.{[], ◌∷◌, ◌++◌};
 
-#[tactic(auto, using(crate::proofs::Entering::entries_more, crate::proofs::Entering::entries_done, crate::proofs::Entering::entries_fail))]
+#[tactic(auto, using(crate::proofs::Entering::entries_more, crate::proofs::Entering::entries_done, crate::proofs::Entering::entries_fail, crate::proofs::Sounds::no_map))]
 fn read_all(alloc: Global, old: bool, part: &Part) -> Result<Vec<Kept>, ImageFault>
     ensures ok { IfOk result (λ entries. entries_from old [] (spot_parts part.now.spot) ≡ Ok entries.items) }
+    ensures kept { IfOk result (λ entries. IsMap entries.items) }
     ensures err { IfErr result (Blames (entries_from old [] (spot_parts part.now.spot))) }
 {
     let mut entries = Vec::new(alloc);
@@ -97,7 +103,9 @@ fn add_entry(
     entries: &mut Vec<Kept>,
     part: &Part,
 ) -> Result<(), ImageFault>
+    requires { IsMap entries.old.items }
     ensures ok { OnOk result (one_more old entries.old.items part.now.spot ≡ Ok entries.new.items) }
+    ensures kept { OnOk result (IsMap entries.new.items) }
     ensures err { IfErr result (Blames (one_more old entries.old.items part.now.spot)) }
 {
     if entries.len() >= MOST {
@@ -109,17 +117,27 @@ fn add_entry(
     }
 }
 
+#[tactic(auto, using(crate::proofs::Sounds::more_map))]
 fn add_new(entries: &mut Vec<Kept>, entry: Kept, part: &Part) -> Result<(), ImageFault>
+    requires kept { IsMap entries.old.items }
+    requires few { length entries.old.items < 4096 }
+    requires sound { IsSoundEntry entry }
     ensures ok { OnOk result (with_new part.now.spot.at entries.old.items entry ≡ Ok entries.new.items) }
+    ensures kept { OnOk result (IsMap entries.new.items) }
     ensures err { IfErr result (Blames (with_new part.now.spot.at entries.old.items entry)) }
 {
     if !is_new(entries.as_slice(), &entry) {
         return Err(fault_at(part));
     }
-    match entries.push(entry) {
-        Ok(()) => Ok(()),
-        Err(_) => Err(ImageFault::NoMemory),
-    }
+    push(entries, entry)?;
+    Ok(())
+}
+
+fn push(entries: &mut Vec<Kept>, entry: Kept) -> Result<(), NoMemory>
+    ensures { OnOk result (entries.new.items ≡ entries.old.items ++ entry ∷ []) }
+{
+    entries.push(entry)?;
+    Ok(())
 }
 
 /// Whether no GUID of an entry is one of these, nor stands in it twice.

@@ -13,12 +13,13 @@ returns-in-Err-clause-err c =
 
 pub overflow_add-at-in-Some : goal.overflow_add-at-in-Some
 overflow_add-at-in-Some c =
-    omega (arith, c.requires, record_shorter c.loop-turn.rest.now c.in-Some.body.now c.in-Some.later.now c.in-Some.ensures, c.loop-turn.invariant.left)
+    omega (arith, c.requires.place, record_shorter c.loop-turn.rest.now c.in-Some.body.now c.in-Some.later.now c.in-Some.ensures, c.loop-turn.invariant.left)
 
 pub loop-turn-preserved : goal.loop-turn-preserved
 loop-turn-preserved c = record {
   says = records_more (length c.args.records.now - c.loop-turn.turn) (length c.args.records.now - (c.loop-turn.turn + 1)) c.loop-turn.at c.loop-turn.entries.items c.replay_one.new.entries.items c.loop-turn.rest.now c.in-Some.body.now c.in-Some.later.now
       (records_in c.args.place c.args.entries.now.items (walk (length c.args.records.now) c.args.place c.args.records.now).bodies)
       (omega (arith, c.loop-turn-test)) c.in-Some.ensures c.in-Ok.ensures.ok c.loop-turn.invariant.says;
+  kept = c.in-Ok.ensures.kept;
   left = omega (arith, record_shorter c.loop-turn.rest.now c.in-Some.body.now c.in-Some.later.now c.in-Some.ensures, c.loop-turn.invariant.left);
 }
