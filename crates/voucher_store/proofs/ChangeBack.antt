@@ -1,16 +1,15 @@
 -- A change is read from its record.
-use Rattle.std.proofs.Common.{◌≡◌, ℕ, ℤ, pos, List, [], ◌∷◌, length, Bool, true, false, if◌then◌else◌, Option, Some, None, Result, Ok, Err, refl, sym, ap, subst, ◌∙◌, arith, lit<, ◌<◌, ◌^◌}
-use Rattle.cbor_core.specs.declared.item.Item.{Item}
+use Rattle.std.proofs.Common.{◌≡◌, ℕ, pos, List, [], ◌∷◌, length, if◌then◌else◌, None, Result, Ok, Err, refl, ap, ◌∙◌, arith, lit<, ◌<◌, ◌^◌}
 use Rattle.cbor_core.specs.declared.item.Item.TheVariants as items
 use Rattle.cbor_core.specs.Norm.{norm, IsFit, IsReadBack}
-use Rattle.cbor_core.specs.Shapes.{two_spots, three_spots}
+use Rattle.cbor_core.specs.Shapes.{three_spots}
 use Rattle.cbor_core.specs.Spots.{Spot, start}
 use Rattle.cbor_core.proofs.NormLaws.{norm_uint, norm_bytes, norm_array, fit_uint, fit_bytes, fit_array}
 use Rattle.voucher_chain.specs.Reading.{IsInMemory}
 use Rattle.voucher_chain.specs.declared.voucher.Voucher.{Voucher}
 use Rattle.voucher_store.specs.Read.{◌>>=◌, det_at}
 use Rattle.voucher_store.specs.Parts.{voucher_inside, guid_inside}
-use Rattle.voucher_store.specs.Records.{change_of_two, change_of_three, change_by, change_at}
+use Rattle.voucher_store.specs.Records.{change_by, change_at}
 use Rattle.voucher_store.specs.Snapshot.{is_at}
 use Rattle.voucher_store.specs.Writing.{item_of_change, body_of_change, IsSpelt, HasSizes}
 use Rattle.voucher_store.specs.declared.change.Change.{Change}

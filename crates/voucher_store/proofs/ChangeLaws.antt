@@ -1,22 +1,21 @@
 -- A change of a map that can be kept makes another one.
-use Rattle.std.proofs.Common.{◌≡◌, ◌⊎◌, inl, inr, ℕ, ◌+◌, ◌≤◌, List, [], ◌∷◌, ◌++◌, length, Bool, true, false, ◌||◌, ◌&&◌, nat_le, if◌then◌else◌, Option, Some, None, refl, sym, ap, subst, ◌∙◌, arith}
+use Rattle.std.proofs.Common.{◌≡◌, ◌⊎◌, inl, inr, ℕ, ◌≤◌, List, [], ◌∷◌, length, Bool, true, false, ◌||◌, ◌&&◌, nat_le, if◌then◌else◌, Option, Some, None, refl, sym, ap, subst, ◌∙◌, arith}
 use Rattle.std.specs.Prelude.{not, is_some}
 use Rattle.std.specs.Str.{bytes_eq}
 use Rattle.std.proofs.lemmas.Bool.{cases_Bool, false≢true, leb-true}
 use Rattle.std.proofs.lemmas.List.{length-append}
 use Rattle.std.proofs.lemmas.Slice.Eq.{bytes_eq-Decides}
 use Rattle.voucher_chain.specs.declared.voucher.Voucher.{Voucher}
-use Rattle.voucher_map.specs.Map.{voucher_of, candidate_in, guid_of, names, is_guid, entry_of, is_candidate, is_kept, set_entry, put_entry, imported, held_in, held_of, candidate_set_in, candidate_set, promoted_in, promoted, sent}
+use Rattle.voucher_map.specs.Map.{candidate_in, guid_of, names, is_guid, entry_of, is_candidate, is_kept, set_entry, imported, held_in, candidate_set_in, candidate_set, promoted_in, promoted, sent}
 use Rattle.voucher_map.specs.Laws.{DifferInOne}
 use Rattle.voucher_map.specs.declared.kept.Kept.{Kept}
 use Rattle.voucher_map.specs.declared.kept.Kept.TheVariants as kept
 use Rattle.voucher_map.proofs.EntryLaws.{changes_one, adds_last}
-use Rattle.voucher_store.specs.Snapshot.{is_new}
-use Rattle.voucher_store.specs.Records.{is_taken, is_others, if_free, if_few, set_by, promoted_by, sent_by, changed}
+use Rattle.voucher_store.specs.Records.{is_taken, is_others, if_free, set_by, promoted_by, sent_by, changed}
 use Rattle.voucher_store.specs.Writing.{IsSound, IsSoundEntry, AreSound, IsMap, IsSpelt}
 use Rattle.voucher_store.specs.declared.change.Change.{Change}
 use Rattle.voucher_store.specs.declared.change.Change.TheVariants as change
-use Rattle.voucher_store.proofs.GuidLaws.{has, EachGuid, IsSingle, each_has, missed_both, missed_first, new_is, is_new_by, Split, split, replace, more, left_or, right_or}
+use Rattle.voucher_store.proofs.GuidLaws.{has, EachGuid, IsSingle, each_has, missed_both, missed_first, new_is, is_new_by, split, replace, more, left_or, right_or}
 
 -- an entry that is named, among the others
 pub record Named (g : List ℕ) (old : Kept) (es : List Kept) : Type 0 where

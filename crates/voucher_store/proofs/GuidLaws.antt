@@ -6,8 +6,7 @@ use Rattle.std.specs.Str.{bytes_eq}
 use Rattle.std.proofs.lemmas.Bool.{cases_Bool, false≢true}
 use Rattle.std.proofs.lemmas.List.{append-nil}
 use Rattle.std.proofs.lemmas.Slice.Eq.{bytes_eq-Decides}
-use Rattle.voucher_chain.specs.declared.voucher.Voucher.{Voucher}
-use Rattle.voucher_map.specs.Map.{voucher_of, candidate_in, guid_of, names, is_guid, entry_of, is_candidate, is_kept}
+use Rattle.voucher_map.specs.Map.{candidate_in, guid_of, names, is_guid, entry_of, is_candidate, is_kept}
 use Rattle.voucher_map.specs.declared.kept.Kept.{Kept}
 use Rattle.voucher_map.specs.declared.kept.Kept.TheVariants as kept
 use Rattle.voucher_store.specs.Snapshot.{is_new_candidate, is_new}
@@ -176,13 +175,16 @@ split b (x ∷ f) o k s =
 pub join : (b f : List Kept) (o : Kept) (k : List Kept) → Split b f o k → AreSound b (f ++ o ∷ k)
 join b [] o k p = (p.sound, subst (λ l. is_new l o ≡ true) (append-nil b) p.new, subst (λ l. AreSound (l ++ o ∷ []) k) (append-nil b) p.back)
 join b (x ∷ f) o k p =
-    let same : b ++ x ∷ f ≡ (b ++ x ∷ []) ++ f = sym (append_assoc b (x ∷ []) f) in
-    (p.front.0, p.front.1, join (b ++ x ∷ []) f o k (record {
-      front = p.front.2;
-      sound = p.sound;
-      new = subst (λ l. is_new l o ≡ true) same p.new;
-      back = subst (λ l. AreSound (l ++ o ∷ []) k) same p.back;
-    }))
+    let same : b ++ x ∷ f ≡ (b ++ x ∷ []) ++ f = sym (append_assoc b (x ∷ []) f) in (
+      p.front.0,
+      p.front.1,
+      join (b ++ x ∷ []) f o k (record {
+        front = p.front.2;
+        sound = p.sound;
+        new = subst (λ l. is_new l o ≡ true) same p.new;
+        back = subst (λ l. AreSound (l ++ o ∷ []) k) same p.back;
+      }),
+    )
 
 module _ (new : Kept) where
   swap : (X Y k : List Kept) → ((g : List ℕ) → is_kept g X ≡ false → has g new ≡ false → is_kept g Y ≡ false) → AreSound X k → AllByRecursion (EachGuid (λ g. has g new ≡ false)) k → AreSound Y k
@@ -199,9 +201,9 @@ module _ (new : Kept) where
     apart : (h : List ℕ) (e : Kept) → has h o ≡ false → has h e ≡ true → (W h → has h e ≡ false) → has h new ≡ false
     apart h e other own over = elim (cases_Bool (has h new)) [
       | inl is ↦ (elim (has_one (λ g. (has g o ≡ true) ⊎ W g) new h fresh is) [
-          | inl was ↦ absurd (false≢true (sym other ∙ was))
-          | inr w ↦ absurd (false≢true (sym (over w) ∙ own))
-        ])
+        | inl was ↦ absurd (false≢true (sym other ∙ was))
+        | inr w ↦ absurd (false≢true (sym (over w) ∙ own))
+      ])
       | inr not ↦ not
     ]
 
@@ -209,7 +211,7 @@ module _ (new : Kept) where
     away X [] over other s = tt
     away X (e ∷ k) over other s = (
       each_map (λ g. (is_kept g X ≡ false) × (has g e ≡ true)) (λ g. has g new ≡ false) (λ g h. apart g e (other g h.0) h.1 (λ w. (missed_first g e k (over g w)).0)) e
-      (each_both (λ g. is_kept g X ≡ false) (λ g. has g e ≡ true) e (new_is X e s.1).missed (each_has e)),
+          (each_both (λ g. is_kept g X ≡ false) (λ g. has g e ≡ true) e (new_is X e s.1).missed (each_has e)),
       away (X ++ e ∷ []) k (λ g w. (missed_first g e k (over g w)).1) (λ g x. other g (missed_both g X (e ∷ []) x).0) s.2,
     )
 
@@ -218,7 +220,7 @@ replace f o k new s sound single fresh =
     let p = split [] f o k s in
     let W : List ℕ → Type 0 = λ g. is_kept g (f ++ o ∷ k) ≡ false in
     let front : (g : List ℕ) → (has g o ≡ true) ⊎ W g → is_kept g f ≡ false =
-      λ g h. elim h [ | inl own ↦ has_one (λ g. is_kept g f ≡ false) o g (new_is f o p.new).missed own | inr w ↦ (missed_both g f (o ∷ k) w).0 ] in
+    λ g h. elim h [ inl own ↦ has_one (λ g. is_kept g f ≡ false) o g (new_is f o p.new).missed own | inr w ↦ (missed_both g f (o ∷ k) w).0 ] in
     join [] f new k (record {
       front = p.front;
       sound = sound;

@@ -1,5 +1,5 @@
 -- Arrays that were written, and their parts where these stand.
-use Rattle.std.proofs.Common.{◌≡◌, ℕ, ℤ, ◌-◌, pos, List, [], ◌∷◌, map, length, Bool, true, false, if◌then◌else◌, Option, Some, None, Result, Ok, Err, refl, sym, ap, subst, ◌∙◌}
+use Rattle.std.proofs.Common.{◌≡◌, ℕ, ℤ, ◌-◌, List, [], ◌∷◌, map, length, true, if◌then◌else◌, Option, Some, None, Result, Ok, refl, sym, ap, ◌∙◌}
 use Rattle.std.specs.List.{AllByRecursion}
 use Rattle.std.specs.Ordering.{int_eq}
 use Rattle.std.proofs.lemmas.Bool.{eq-eqb, le-leb}
@@ -12,7 +12,7 @@ use Rattle.cbor_core.specs.Numbers.{integer_in, item_of_integer, IsI64}
 use Rattle.cbor_core.specs.Parts.{inner, inner_in}
 use Rattle.cbor_core.specs.Reading.{first_item}
 use Rattle.cbor_core.specs.Shapes.{is_array, is_number, of_length, two_of, three_of, four_of, two_spots, three_spots, four_spots}
-use Rattle.cbor_core.specs.Spots.{Spot, start, spot_item, spot_parts, bytes_in}
+use Rattle.cbor_core.specs.Spots.{Spot, start, spot_item, spot_parts}
 use Rattle.cbor_core.proofs.NormLaws.{integer_back, content_back}
 use Rattle.cbor_core.proofs.SpotLaws.{written_spelled}
 use Rattle.cbor_core.proofs.WholeLaws.{shows_again}

@@ -1,8 +1,8 @@
 -- Entries are read from their snapshot.
-use Rattle.std.proofs.Common.{◌≡◌, ◌⊎◌, inl, inr, ℕ, zero, suc, ℤ, ◌+◌, ◌-◌, pos, List, [], ◌∷◌, ◌++◌, map, length, take, Bool, true, false, ◌||◌, nat_lt, if◌then◌else◌, Option, Some, None, Result, Ok, Err, refl, sym, ap, subst, ◌∙◌, append_assoc, arith, lit<, ◌<◌, ◌≤◌, ◌^◌}
+use Rattle.std.proofs.Common.{◌≡◌, ◌⊎◌, inl, inr, ℕ, zero, suc, ℤ, ◌+◌, ◌-◌, pos, List, [], ◌∷◌, ◌++◌, map, length, true, false, ◌||◌, if◌then◌else◌, Option, Some, None, Ok, Err, refl, sym, ap, subst, ◌∙◌, append_assoc, arith, lit<, ◌<◌, ◌≤◌}
 use Rattle.std.specs.List.{AllByRecursion}
 use Rattle.std.specs.Ordering.{int_eq}
-use Rattle.std.specs.Str.{bytes_eq, is_utf8, IsAscii}
+use Rattle.std.specs.Str.{IsAscii}
 use Rattle.std.proofs.lemmas.Str.{is_utf8-from_IsUtf8, IsUtf8-from_ascii}
 use Rattle.std.proofs.lemmas.Bool.{lt-ltb, cases_Bool}
 use Rattle.std.proofs.lemmas.Bool.Decides.{Decides-int_eq}
@@ -14,11 +14,11 @@ use Rattle.cbor_core.specs.declared.item.Item.TheFolds.{fold-roll-Item}
 use Rattle.cbor_core.specs.declared.item.Item.TheVariants as items
 use Rattle.cbor_core.specs.Norm.{norm, norm_step, IsFit, IsFitLayer, IsFitWithin, IsReadBack}
 use Rattle.cbor_core.specs.Numbers.{item_of_integer, IsI64}
-use Rattle.cbor_core.specs.Shapes.{null, is_null, is_array, two_spots, three_spots, four_spots}
+use Rattle.cbor_core.specs.Shapes.{null, is_null, three_spots}
 use Rattle.cbor_core.specs.Spots.{Spot, start, spot_item, spot_parts, text_in}
 use Rattle.cbor_core.proofs.Dets.{length_map}
 use Rattle.cbor_core.proofs.NormLaws.{norm_uint, norm_bytes, norm_array, norm_integer, fit_uint, fit_bytes, fit_array, fit_integer}
-use Rattle.voucher_chain.specs.Reading.{IsVoucher, IsInMemory}
+use Rattle.voucher_chain.specs.Reading.{IsInMemory}
 use Rattle.voucher_chain.specs.declared.voucher.Voucher.{Voucher}
 use Rattle.voucher_chain.proofs.BackLaws.{norm_null, of_layer}
 use Rattle.hash_hmac.specs.declared.hash.Hash.{Hash}
@@ -30,7 +30,7 @@ use Rattle.voucher_map.specs.declared.kept.Kept.{Kept}
 use Rattle.voucher_map.specs.declared.kept.Kept.TheVariants as kept
 use Rattle.voucher_store.specs.Read.{◌>>=◌, det_at}
 use Rattle.voucher_store.specs.Parts.{voucher_inside, candidate_inside, as_some}
-use Rattle.voucher_store.specs.Snapshot.{is_at, EntrySpots, numbered, held_spots, sent_spots, second_spots_by, is_kind, is_kind_of, kind_place, kept_with, kept_by, entry_by, entry_at, is_new, with_new, one_more, entries_from, entries_at, is_word, ended_by, snapshot_by, snapshot_at}
+use Rattle.voucher_store.specs.Snapshot.{is_at, EntrySpots, held_spots, sent_spots, second_spots_by, is_kind, is_kind_of, kind_place, kept_with, kept_by, entry_by, entry_at, is_new, with_new, one_more, entries_from, entries_at, is_word, ended_by, snapshot_by, snapshot_at}
 use Rattle.voucher_store.specs.Writing.{item_of_candidate, item_of_kind, item_of_entry, word, item_of_snapshot, body_of_snapshot, IsSound, IsSoundCandidate, IsSoundEntry, AreSound, IsMap, CandidateHasSize, EntryHasSizes}
 use Rattle.voucher_store.proofs.Leaves.{Leaf, AreLeaves, written, read_whole, array_leaves, array_is, three_are, four_are, number_is, voucher_back}
 

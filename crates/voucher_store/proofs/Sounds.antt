@@ -1,5 +1,5 @@
 -- What is read can be kept again.
-use Rattle.std.proofs.Common.{◌≡◌, ℕ, ◌<◌, ◌≤◌, List, [], ◌∷◌, ◌++◌, length, true, Option, Some, None, refl, sym, subst, ◌∙◌, arith}
+use Rattle.std.proofs.Common.{◌≡◌, ℕ, ◌<◌, List, [], ◌∷◌, ◌++◌, length, true, sym, subst, arith}
 use Rattle.std.proofs.lemmas.List.{length-append}
 use Rattle.voucher_chain.specs.Reading.{IsVoucher}
 use Rattle.voucher_chain.specs.declared.voucher.Voucher.{Voucher}
