@@ -10,3 +10,4 @@ pub mod SnapshotBack
 pub mod GuidLaws
 pub mod ChangeLaws
 pub mod Sounds
+pub mod MapLaws

@@ -7,3 +7,4 @@ pub mod Records
 pub mod Writing
 pub mod Image
 pub mod Bodies
+pub mod Changing
