@@ -11,3 +11,4 @@ pub mod GuidLaws
 pub mod ChangeLaws
 pub mod Sounds
 pub mod MapLaws
+pub mod SnapshotLength

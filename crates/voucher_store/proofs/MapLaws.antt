@@ -148,8 +148,8 @@ record_map limit image after st e1 e2 body c at is says makes room more =
     let s = said (areas_for limit) limit st e1 (ap (map_in (areas_for limit) limit) (sym at) ∙ is) in
     let end : ℕ = base_of (areas_for limit) st.side + (areas_for limit).room in
     let bodies : bodies_in (base_of (areas_for limit) st.side + 13) (st.area.bodies ++ body ∷ []) ≡ Ok e2 =
-      ap (λ bs. bodies_in (base_of (areas_for limit) st.side + 13) (bs ++ body ∷ [])) h.bodies
-      ∙ bodies_more (base_of (areas_for limit) st.side + 13) e1 e2 h.body h.records body c (ap (bodies_in (base_of (areas_for limit) st.side + 13)) (sym h.bodies) ∙ s.bodies) says makes in
+    ap (λ bs. bodies_in (base_of (areas_for limit) st.side + 13) (bs ++ body ∷ [])) h.bodies
+    ∙ bodies_more (base_of (areas_for limit) st.side + 13) e1 e2 h.body h.records body c (ap (bodies_in (base_of (areas_for limit) st.side + 13)) (sym h.bodies) ∙ s.bodies) says makes in
     ap (map_in (areas_for limit) limit) (more ∙ ap (one_more body) at)
     ∙ ap (λ r. r >>= checked limit end (st.area.place + (5 + length body)) false) bodies
     ∙ checked_by limit end (st.area.place + (5 + length body)) false e2 room

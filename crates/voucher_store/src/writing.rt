@@ -5,7 +5,8 @@ ghost use Rattle.voucher_store.specs.Read.{det_at};
 ghost use Rattle.voucher_store.specs.Records.{change_at};
 ghost use Rattle.voucher_store.specs.Snapshot.{snapshot_at};
 ghost use Rattle.voucher_store.specs.Writing.{item_of_change, body_of_change, IsSpelt, HasSizes, item_of_kind, item_of_candidate, item_of_entry, item_of_snapshot, body_of_snapshot, word, IsMap, CandidateHasSize, EntryHasSizes};
-ghost use Rattle.std.specs.Prelude.{map};
+ghost use Rattle.std.specs.Prelude.{◌+◌, map};
+ghost use Rattle.voucher_map.specs.Map.{snapshot_length};
 ghost use Rattle.std.specs.Option.{option_copied};
 ghost use Rattle.std.specs.List.{AllByRecursion};
 
@@ -78,10 +79,12 @@ pub(crate) fn voucher_item(alloc: Global, voucher: &Voucher) -> Result<Item, NoM
 // ---- snapshots
 
 /// The body of the snapshot that says these entries, of version 2.
-#[tactic(auto, using(crate::proofs::SnapshotBack::snapshot_back))]
+#[tactic(auto, using(crate::proofs::SnapshotLength::snapshot_size))]
 pub fn snapshot_body(alloc: Global, entries: &[Kept]) -> Result<Blob, NoMemory>
     ensures body { IfOk result (λ body. body ≡ body_of_snapshot entries.now) }
-    // Where they are a map that can be kept, they are read from the snapshot.
+    // Where they are a map that can be kept, it takes a byte for each entry more than a snapshot of version 1.
+    ensures length { IsMap entries.now → IfOk result (λ body. length body ≡ snapshot_length entries.now + length entries.now) }
+    // And they are read from it.
     ensures back { IsMap entries.now → IfOk result (λ body. det_at snapshot_at body ≡ Ok entries.now) }
 {
     let item = snapshot_item(alloc, entries)?;
