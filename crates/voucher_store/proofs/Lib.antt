@@ -12,3 +12,4 @@ pub mod ChangeLaws
 pub mod Sounds
 pub mod MapLaws
 pub mod SnapshotLength
+pub mod LoadLaws

@@ -8,3 +8,4 @@ pub mod Writing
 pub mod Image
 pub mod Bodies
 pub mod Changing
+pub mod Store

@@ -20,3 +20,14 @@ impl From<NoMemory> for ImageFault {
         ImageFault::NoMemory
     }
 }
+
+/// Why a store is not opened.
+#[derive(Clone, Copy, Debug, PartialEq, Eq)]
+pub enum OpenFault {
+    /// The disk failed, and its count of faults rose in this call.
+    Disk,
+    /// The file stands for no vouchers: the offset in it is that of the first fault.
+    Foreign(u64),
+    /// Memory ran out.
+    NoMemory,
+}

@@ -7,6 +7,7 @@ pub mod change;
 mod entry;
 pub mod fault;
 pub mod image;
+mod loading;
 pub mod map;
 mod parts;
 mod records;
