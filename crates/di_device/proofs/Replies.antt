@@ -1,5 +1,5 @@
 -- Which causes have an error message.
-use Rattle.std.proofs.Common.{◌≡◌, ℕ, List, Option, Some, None, refl, sym, ap, ◌∙◌}
+use Rattle.std.proofs.Common.{◌≡◌, ℕ, Option, Some, None, refl, sym, ap, ◌∙◌}
 use Rattle.std.specs.Option.{option_map}
 use Rattle.fdo_msgs.specs.Cause.{code_of}
 use Rattle.fdo_msgs.specs.Refusal.{error_of}

@@ -1,5 +1,5 @@
 -- How the steps of a device at its factory are put together.
-use Rattle.std.proofs.Common.{◌≡◌, ℕ, ◌<◌, ◌≤◌, nat_le, Bool, true, false, List, length, Option, Some, None, Result, Ok, Err, inl, inr, refl, sym, ap, subst, ◌∙◌, arith}
+use Rattle.std.proofs.Common.{◌≡◌, ℕ, ◌<◌, ◌≤◌, nat_le, Bool, true, false, List, length, Some, None, Result, Ok, Err, inl, inr, refl, sym, ap, subst, ◌∙◌, arith}
 use Rattle.std.proofs.lemmas.Bool.{leb-true, le-leb}
 use Rattle.port_base.specs.Count.{Rises}
 use Rattle.disk_port.specs.Told.{Told}
@@ -9,7 +9,6 @@ use Rattle.fdo_ports.specs.declared.failed.Failed.{Failed}
 use Rattle.fdo_msgs.specs.Kind as kind
 use Rattle.fdo_msgs.specs.Said.{body_of}
 use Rattle.fdo_msgs.specs.Refusal.{error_of}
-use Rattle.fdo_msgs.specs.declared.cause.Cause.{Cause}
 use Rattle.fdo_msgs.specs.declared.cause.Cause.TheVariants as cause
 use Rattle.fdo_msgs.specs.declared.cause.Object.TheVariants as object
 use Rattle.fdo_msgs.specs.declared.last.Last.TheVariants as last
