@@ -13,3 +13,5 @@ pub mod Sounds
 pub mod MapLaws
 pub mod SnapshotLength
 pub mod LoadLaws
+pub mod SnapLaws
+pub mod OpenLaws

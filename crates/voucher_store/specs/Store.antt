@@ -1,5 +1,5 @@
 -- A file is opened: a body of version 1 is written anew.
-use Rattle.std.specs.Prelude.{◌≡◌, ◌⊎◌, ℕ, ◌+◌, ◌==◌, ◌&&◌, List, [], ◌∷◌, ◌++◌, Bool, true, false, if◌then◌else◌, Option, Some, None, Result, Ok, Err}
+use Rattle.std.specs.Prelude.{◌≡◌, ◌≤◌, ◌⊎◌, ℕ, ◌+◌, ◌==◌, ◌&&◌, List, [], ◌∷◌, ◌++◌, Bool, true, false, if◌then◌else◌, Option, Some, None, Result, Ok, Err}
 use Rattle.port_base.specs.Count.{Rises}
 use Rattle.disk_port.specs.Story.{Event, Synced, Story, seen, with_events}
 use Rattle.disk_port.specs.Crash.{Leaves}
@@ -11,7 +11,7 @@ use Rattle.journal.specs.Areas.{Standing, base_of, stands, areas_for, cursor}
 use Rattle.journal.specs.Changing.{IsCurrent, snapshot}
 use Rattle.journal.specs.declared.cursor.Cursor.{Cursor}
 use Rattle.voucher_map.specs.declared.kept.Kept.{Kept}
-use Rattle.voucher_store.specs.Image.{map_of}
+use Rattle.voucher_store.specs.Image.{goes_on, map_of}
 use Rattle.voucher_store.specs.Writing.{body_of_snapshot}
 use Rattle.voucher_store.specs.declared.fault.OpenFault.{OpenFault}
 use Rattle.voucher_store.specs.declared.fault.OpenFault.TheVariants as opening
@@ -99,3 +99,27 @@ pub record IsOpen (limit : ℕ) (told : Option Story) (entries : List Kept) (now
   pub rested : rests told ≡ true
   pub current : IfTold (IsCurrent (areas_for limit) now) told
   pub content : Holds limit told entries
+
+-- a snapshot has room in the area that it goes to
+pub record Fits (limit : ℕ) (change : NextChange) (size : ℕ) (entries : List Kept) : Type 0 where
+  pub short : size ≤ (areas_for limit).most
+  pub room : goes_on limit (base_of (areas_for limit) change.side + (areas_for limit).room) (base_of (areas_for limit) change.side + (13 + size)) false entries ≡ true
+
+-- what was read is made ready: a body of version 1 is written anew
+abbrev pub ready_events : ℕ → List Kept → Cursor → Bool → List Event
+ready_events limit entries now old = if old then snapshot_events limit now.next entries else []
+
+abbrev pub MakesReady : {T E : Type 0} → ℕ → List Kept → Cursor → Bool → Result T E → Story → Story → Type 0
+MakesReady limit entries now old result s s' = Steps (λ c. map_of limit c ≡ map_of limit (seen s)) (ready_events limit entries now old) result s s'
+
+-- ---- a store as its callers see it
+
+pub record StoreView (D : Type 0) : Type 0 where
+  pub disk : D
+  pub limit : ℕ
+  pub entries : List Kept
+
+-- the disk that an opening hands back
+abbrev pub disk_opened : {D : Type 0} → Result (StoreView D) (D × OpenFault) → D
+disk_opened (Ok s) = s.disk
+disk_opened (Err e) = e.0

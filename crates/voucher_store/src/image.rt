@@ -111,7 +111,7 @@ ghost use Rattle.std.specs.Prelude.{◌*◌, nat_lt};
 
 /// Whether each candidate has room, from a place on, for the record that makes it the base. It takes no memory.
 #[tactic(auto, using(crate::proofs::Rooms::room_ends, crate::proofs::Rooms::room_over))]
-fn has_room(place: u64, end: u64, entries: &[Kept]) -> bool
+pub(crate) fn has_room(place: u64, end: u64, entries: &[Kept]) -> bool
     ensures { result ≡ nat_lt (place + 24 * candidates entries.now) end }
 {
     let mut at = place;

@@ -11,13 +11,16 @@ mod loading;
 pub mod map;
 mod parts;
 mod records;
+mod renewing;
 mod replaying;
 mod size;
 mod snapshot;
+pub mod store;
 pub mod writing;
 
 pub use change::Change;
-pub use fault::ImageFault;
+pub use fault::{ImageFault, OpenFault};
 pub use image::read_image;
 pub use map::VoucherMap;
+pub use store::VoucherStore;
 pub use writing::{record_body, snapshot_body};
