@@ -1,9 +1,8 @@
 -- The map of a file, with one more record or with a new snapshot.
-use Rattle.std.proofs.Common.{◌≡◌, ◌⊎◌, inl, inr, ℕ, ◌+◌, ◌*◌, ◌<◌, ◌≤◌, List, [], ◌∷◌, ◌++◌, length, take, drop, Bool, true, false, ◌&&◌, nat_lt, nat_le, if◌then◌else◌, Option, Some, None, Result, Ok, Err, option_map, refl, sym, ap, subst, ◌∙◌, arith}
+use Rattle.std.proofs.Common.{◌≡◌, ◌⊎◌, inl, inr, ℕ, ◌+◌, ◌*◌, ◌<◌, ◌≤◌, List, [], ◌∷◌, ◌++◌, length, take, drop, Bool, true, false, ◌&&◌, nat_lt, nat_le, if◌then◌else◌, Option, Some, None, Result, Ok, Err, refl, sym, ap, subst, ◌∙◌}
 use Rattle.std.specs.Prelude.{not}
 use Rattle.std.proofs.lemmas.Bool.{false≢true, ltb-true, leb-true}
 use Rattle.disk_port.specs.Story.{Story, seen}
-use Rattle.disk_port.specs.Moments.{Steps}
 use Rattle.disk_port.specs.Gated.{gated}
 use Rattle.disk_port.specs.Slots.{slot, is_newer}
 use Rattle.disk_port.specs.declared.next_change.NextChange.{NextChange}
@@ -12,7 +11,7 @@ use Rattle.disk_port.specs.declared.side.Side.TheVariants.{First, Second}
 use Rattle.disk_port.proofs.Stepping.{steps_map}
 use Rattle.journal.specs.Records.{walk, framed}
 use Rattle.journal.specs.Areas.{Area, area_of, behind_slot, area_with, area, area_at, Standing, held, newest, base_of, stands, areas_for, IsReady}
-use Rattle.journal.specs.Changing.{recorded, fresh, snapshot, one_more, IsSameOrMore, IsSameOrFresh, Appends, Rewrites}
+use Rattle.journal.specs.Changing.{fresh, snapshot, one_more, IsSameOrMore, IsSameOrFresh, Appends, Rewrites}
 use Rattle.journal.specs.declared.areas.Areas.{Areas}
 use Rattle.voucher_map.specs.Map.{snapshot_length}
 use Rattle.voucher_map.specs.declared.kept.Kept.{Kept}

@@ -1,11 +1,11 @@
 -- What an opening leaves.
-use Rattle.std.proofs.Common.{◌≡◌, ◌⊎◌, inl, inr, ℕ, List, [], ◌∷◌, ◌++◌, Bool, true, false, if◌then◌else◌, Option, None, Some, Result, Ok, Err, refl, ap, sym, ◌∙◌, subst}
+use Rattle.std.proofs.Common.{◌≡◌, ◌⊎◌, inl, inr, ℕ, List, [], ◌∷◌, ◌++◌, true, false, if◌then◌else◌, Option, None, Some, Result, Ok, Err, refl, ap, sym, ◌∙◌, subst}
 use Rattle.disk_port.specs.Story.{Synced, Story, seen, with_events}
 use Rattle.disk_port.specs.Crash.{Leaves}
 use Rattle.disk_port.specs.Told.{Told, IfTold, rests}
 use Rattle.disk_port.specs.Moments.{Moments, Steps}
 use Rattle.disk_port.proofs.Stepping.{only, moments_none, moments_one, steps_map, steps_then}
-use Rattle.journal.specs.Areas.{stands, areas_for, cursor}
+use Rattle.journal.specs.Areas.{stands, areas_for}
 use Rattle.journal.specs.Changing.{IsCurrent}
 use Rattle.journal.specs.declared.cursor.Cursor.{Cursor}
 use Rattle.voucher_map.specs.declared.kept.Kept.{Kept}

@@ -1,5 +1,5 @@
 -- A new snapshot of some entries.
-use Rattle.std.proofs.Common.{◌≡◌, ◌⊎◌, inl, inr, ℕ, ◌+◌, ◌*◌, ◌-◌, ◌^◌, ◌≤◌, ◌<◌, List, [], ◌∷◌, ◌++◌, length, min, Bool, true, false, nat_lt, nat_le, Option, None, Some, Result, Ok, Err, refl, ap, sym, ◌∙◌, subst, arith, IsTrue, if◌then◌else◌}
+use Rattle.std.proofs.Common.{◌≡◌, ◌⊎◌, inl, ℕ, ◌+◌, ◌*◌, ◌^◌, ◌≤◌, ◌<◌, List, [], ◌∷◌, length, true, nat_lt, Option, None, Some, Result, Ok, Err, refl, ap, sym, ◌∙◌, subst, arith, IsTrue}
 use Rattle.std.proofs.lemmas.Bool.{le-leb}
 use Rattle.std.proofs.lemmas.List.{length-append}
 use Rattle.fdo_ports.specs.declared.failed.Failed.{Failed}
@@ -18,7 +18,7 @@ use Rattle.voucher_map.specs.declared.kept.Kept.{Kept}
 use Rattle.voucher_store.specs.Read.{det_at}
 use Rattle.voucher_store.specs.Snapshot.{snapshot_at}
 use Rattle.voucher_store.specs.Writing.{body_of_snapshot}
-use Rattle.voucher_store.specs.Image.{candidates, goes_on, map_of}
+use Rattle.voucher_store.specs.Image.{candidates, map_of}
 use Rattle.voucher_store.specs.Changing.{Changes}
 use Rattle.voucher_store.specs.Store.{Holds, IsOpen, Fits, snapshot_events}
 use Rattle.voucher_store.specs.declared.fault.OpenFault.{OpenFault}

@@ -1,5 +1,5 @@
 -- How many bytes a snapshot takes: one for each entry more than in version 1.
-use Rattle.std.proofs.Common.{◌≡◌, ◌⊎◌, inl, inr, ℕ, ℤ, ◌+◌, ◌*◌, ◌^◌, pos, List, [], ◌∷◌, ◌++◌, map, length, Bool, true, false, nat_lt, if◌then◌else◌, Option, Some, None, refl, sym, ap, subst, ◌∙◌, arith}
+use Rattle.std.proofs.Common.{◌≡◌, ◌⊎◌, inl, inr, ℕ, ℤ, ◌+◌, ◌*◌, ◌^◌, pos, List, [], ◌∷◌, ◌++◌, map, length, Bool, true, false, nat_lt, if◌then◌else◌, Option, Some, None, refl, sym, ap, ◌∙◌, arith}
 use Rattle.std.specs.Prelude.{sum}
 use Rattle.std.specs.List.{concat}
 use Rattle.std.specs.Int.{w8, w16, w32, w64, to_be_bytes}
@@ -10,13 +10,12 @@ use Rattle.cbor_core.specs.declared.item.Item.TheVariants as items
 use Rattle.cbor_core.specs.Head.{head}
 use Rattle.cbor_core.specs.Deterministic.{det}
 use Rattle.cbor_core.specs.Numbers.{item_of_integer}
-use Rattle.cbor_core.specs.Shapes.{null}
 use Rattle.cbor_core.proofs.Dets.{length_map, det_uint, det_bytes, det_text, det_array, det_simple}
 use Rattle.voucher_chain.specs.declared.voucher.Voucher.{Voucher}
 use Rattle.voucher_map.specs.Map.{head_length, string_length, candidate_length, entry_length, snapshot_length}
 use Rattle.voucher_map.specs.declared.kept.Kept.{Kept}
 use Rattle.voucher_map.specs.declared.kept.Kept.TheVariants as kept
-use Rattle.voucher_store.specs.Writing.{item_of_candidate, item_of_kind, item_of_entry, word, item_of_snapshot, body_of_snapshot, IsSoundEntry, AreSound, IsMap}
+use Rattle.voucher_store.specs.Writing.{item_of_candidate, item_of_kind, item_of_entry, word, body_of_snapshot, IsSoundEntry, AreSound, IsMap}
 use Rattle.voucher_store.proofs.SnapshotBack.{known_kind}
 
 abbrev head_by : ℕ → ℕ → Bool → Bool → Bool → Bool → List ℕ

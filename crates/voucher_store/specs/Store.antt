@@ -1,5 +1,5 @@
 -- A file is opened: a body of version 1 is written anew.
-use Rattle.std.specs.Prelude.{◌≡◌, ◌≤◌, ◌⊎◌, ℕ, ◌+◌, ◌==◌, ◌&&◌, List, [], ◌∷◌, ◌++◌, Bool, true, false, if◌then◌else◌, Option, Some, None, Result, Ok, Err}
+use Rattle.std.specs.Prelude.{◌≡◌, ◌≤◌, ◌⊎◌, ℕ, ◌+◌, ◌==◌, List, [], ◌∷◌, ◌++◌, Bool, true, false, if◌then◌else◌, Option, Some, None, Result, Ok, Err}
 use Rattle.port_base.specs.Count.{Rises}
 use Rattle.disk_port.specs.Story.{Event, Synced, Story, seen, with_events}
 use Rattle.disk_port.specs.Crash.{Leaves}
