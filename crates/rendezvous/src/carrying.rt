@@ -4,7 +4,6 @@ ghost use Rattle.fdo_rules.specs.Rendezvous.{error_token};
 ghost use Rattle.fdo_rules.specs.Unfit.{HasCode};
 ghost use Rattle.rendezvous.specs.Carrying.{Answerable, Carries, CarriesJudged, Keeps, rv_view};
 ghost use Rattle.rendezvous.specs.declared.verdict.Verdict.TheVariants.{BeginsTo0, BeginsTo1, Redirects, Refuses, Registers};
-
 ghost use Rattle.fdo_msgs.specs.Kind.{accept_owner};
 ghost use Rattle.fdo_msgs.specs.Said.{body_of, kind_of};
 ghost use Rattle.fdo_msgs.specs.declared.msg.Msg.TheVariants.{AcceptOwner};
@@ -203,12 +202,7 @@ impl Server {
     }
 
     /// Where a device's owner is, which ends its session.
-    fn redirects(
-        &mut self,
-        alloc: Global,
-        packet: &Packet,
-        to1d: To1d,
-    ) -> Result<Answer, NoMemory>
+    fn redirects(&mut self, alloc: Global, packet: &Packet, to1d: To1d) -> Result<Answer, NoMemory>
         ensures { Carries (rv_view self.old) packet.now (Redirects to1d) result (rv_view self.new) }
     {
         let token = copy_token(&packet.token)?;

@@ -6,14 +6,14 @@ use std::alloc::Global;
 use suite_port::Suite;
 
 /// The rendezvous server with the objects of its steps.
-pub struct RvHandler<'a, S: Suite, N: Random, C: Clock> {
+pub struct RvHandler<'a, 'b, 'c, 'd, S: Suite, N: Random, C: Clock> {
     pub server: &'a mut Server,
-    pub suite: &'a mut S,
-    pub random: &'a mut N,
-    pub clock: &'a mut C,
+    pub suite: &'b mut S,
+    pub random: &'c mut N,
+    pub clock: &'d mut C,
 }
 
-impl<'a, S: Suite, N: Random, C: Clock> Handler for RvHandler<'a, S, N, C> {
+impl<'a, 'b, 'c, 'd, S: Suite, N: Random, C: Clock> Handler for RvHandler<'a, 'b, 'c, 'd, S, N, C> {
     ghost use Rattle.std.specs.Prelude.{ℕ, List, [], ◌∷◌};
     ghost use Rattle.fdo_ports.specs.Draw.{drawn};
     ghost use Rattle.end_checks.specs.Checking.{checking};

@@ -66,20 +66,8 @@ impl Server {
         let in_to0 = self.is_in_to0(token);
         let in_to1 = self.is_in_to1(token);
         match own {
-            Protocol::To0 => {
-                if in_to0 {
-                    Protocol::To0
-                } else {
-                    Protocol::To1
-                }
-            }
-            Protocol::To1 => {
-                if in_to1 {
-                    Protocol::To1
-                } else {
-                    Protocol::To0
-                }
-            }
+            Protocol::To0 => { if in_to0 { Protocol::To0 } else { Protocol::To1 } }
+            Protocol::To1 => { if in_to1 { Protocol::To1 } else { Protocol::To0 } }
         }
     }
 

@@ -143,7 +143,10 @@ impl Server {
         let Ok(now) = now else {
             return Verdict::Refuses(Protocol::To0, Cause::Outside(Object::Clock));
         };
-        if self.registry.is_full(now, &registering.sign.voucher.header.guid) {
+        if self
+            .registry
+            .is_full(now, &registering.sign.voucher.header.guid)
+        {
             return Verdict::Refuses(Protocol::To0, Cause::Full(MOST_REGISTRATIONS as u32));
         }
         let seconds = registering.sign.wait.min(MOST_SECONDS);

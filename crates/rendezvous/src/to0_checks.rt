@@ -145,11 +145,7 @@ ghost use Rattle.fdo_rules.specs.Rendezvous.{leaf_of};
 
 /// The public bytes of the device's key.
 #[tactic(auto, unfolding(fdo_rules::specs::Rendezvous::leaf_of))]
-fn leaf_of<S: Suite>(
-    alloc: Global,
-    suite: &mut S,
-    sign: &OwnerSign,
-) -> Result<Blob, Unfit>
+fn leaf_of<S: Suite>(alloc: Global, suite: &mut S, sign: &OwnerSign) -> Result<Blob, Unfit>
     ensures checked { Checks (leaf_of (checking S.Verifier.verifies S.Signer.algorithm S.CertReader.key_in) sign.now) result }
     ensures held { S.Holder.held suite.new ≡ S.Holder.held suite.old }
     ensures faults { S.Holder.faults suite.new ≡ S.Holder.faults suite.old }

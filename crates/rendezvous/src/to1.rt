@@ -57,10 +57,7 @@ impl Server {
         ensures fits { IfOk result (Fits To1 (rv_view self.now)) }
     {
         let Ok(now) = now else {
-            return Ok(Verdict::Refuses(
-                Protocol::To1,
-                Cause::Outside(Object::Clock),
-            ));
+            return Ok(Verdict::Refuses(Protocol::To1, Cause::Outside(Object::Clock)));
         };
         match self.registry.find(now, &asked.guid) {
             Some(owned) => begin(suite, random, owned, asked),
@@ -118,12 +115,7 @@ fn with_nonce<N: Random>(
 }
 
 /// What TO1.HelloRV comes to with both draws.
-fn with_token(
-    leaf: Blob,
-    asked: HelloRv,
-    nonce: Nonce,
-    token: Result<[u8; 16], Failed>,
-) -> Verdict
+fn with_token(leaf: Blob, asked: HelloRv, nonce: Nonce, token: Result<[u8; 16], Failed>) -> Verdict
     ensures judged { (s : RvView) (packet : Packet) → Ends (rv_token s packet leaf asked nonce token) s packet result }
     ensures fits { (s : RvView) → Fits To1 s result }
 {
@@ -166,12 +158,7 @@ impl Server {
     }
 
     /// The Guid of the device that proved to be the one of its session.
-    fn proved<S: Suite>(
-        &self,
-        alloc: Global,
-        suite: &mut S,
-        packet: &Packet,
-    ) -> Result<Guid, Unfit>
+    fn proved<S: Suite>(&self, alloc: Global, suite: &mut S, packet: &Packet) -> Result<Guid, Unfit>
         ensures checked { Checks (proof_checks (checking S.Verifier.verifies S.Signer.algorithm S.CertReader.key_in) (rv_view self.now) packet.now) result }
         ensures held { S.Holder.held suite.new ≡ S.Holder.held suite.old }
         ensures faults { S.Holder.faults suite.new ≡ S.Holder.faults suite.old }
@@ -208,10 +195,7 @@ impl Server {
         ensures fits { IfOk result (Fits To1 (rv_view self.now)) }
     {
         let Ok(now) = now else {
-            return Ok(Verdict::Refuses(
-                Protocol::To1,
-                Cause::Outside(Object::Clock),
-            ));
+            return Ok(Verdict::Refuses(Protocol::To1, Cause::Outside(Object::Clock)));
         };
         match self.registry.find(now, &guid) {
             Some(owned) => Ok(Verdict::Redirects(owned.to1d.copy(alloc)?)),
