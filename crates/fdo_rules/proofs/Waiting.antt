@@ -11,7 +11,7 @@ use Rattle.fdo_rules.specs.Checks.{fits_peer}
 use Rattle.fdo_rules.specs.DeviceDi as di
 use Rattle.fdo_rules.specs.DeviceDi.{credentials_row}
 use Rattle.fdo_rules.specs.DeviceTo2 as to2
-use Rattle.fdo_rules.specs.DeviceTo2.{HelloSent, Proved, Walk, ov_next_entry_row, prove_ov_hdr_row, setup_device_row}
+use Rattle.fdo_rules.specs.DeviceTo2.{Agreed, HelloSent, Proved, Walk, ov_next_entry_row, prove_ov_hdr_row, setup_device_row}
 use Rattle.fdo_rules.specs.Factory as fac
 use Rattle.fdo_rules.specs.Factory.{FacView, Factory}
 use Rattle.fdo_rules.specs.OwnerHello as own
@@ -20,8 +20,11 @@ use Rattle.fdo_rules.specs.OwnerInfo.{Informed, info_row}
 use Rattle.fdo_rules.specs.Owner.{Owner, OwnSession, OwnView}
 use Rattle.fdo_msgs.specs.Kind.{set_credentials as set_credentials_kind}
 use Rattle.fdo_rules.specs.Moves.{said_by}
-use Rattle.fdo_rules.specs.Parts.{SetupDevice, set_credentials}
-use Rattle.fdo_rules.specs.Row.{WritesNothing}
+use Rattle.fdo_rules.specs.Parts.{set_credentials}
+use Rattle.fdo_rules.specs.declared.parts.OvNextEntry.{OvNextEntry}
+use Rattle.fdo_rules.specs.declared.parts.ProveOvHdr.{ProveOvHdr}
+use Rattle.fdo_rules.specs.declared.parts.SetupDevice.{SetupDevice}
+use Rattle.fdo_rules.specs.Row.{Row, WritesNothing}
 use Rattle.fdo_rules.specs.Suite.{Suite}
 
 -- ---- DI.SetCredentials
@@ -44,32 +47,16 @@ by_header packet (Err e) = tt
 
 -- ---- TO2.ProveOVHdr and TO2.OVNextEntry
 
-asked : (w : Walk) (packet : Packet) (r : Result (Unit {0}) Cause) → WritesNothing (to2.by_size w packet r)
-asked w packet (Ok _) = tt
-asked w packet (Err e) = tt
-
-proves : (w : Walk) (packet : Packet) (p : Proved) (body : List ℕ) (r : Result (Unit {0}) Cause) → WritesNothing (to2.proves w packet p body r)
-proves w packet p body (Ok _) = tt
-proves w packet p body (Err e) = tt
-
 signature : (w : Walk) (packet : Packet) (p : Proved) (alg : ℤ) (r : Result (List ℕ) Failed) → WritesNothing (to2.with_signature w packet p alg r)
-signature w packet p alg (Ok sig) = proves w packet p _ _
+signature w packet p alg (Ok sig) = tt
 signature w packet p alg (Err _) = tt
 
-half : (w : Walk) (packet : Packet) (setup : List ℕ) (alg : ℤ) (bits : ℕ) (r : Option (List ℕ × List ℕ)) → WritesNothing (to2.by_second w packet setup alg bits r)
-half w packet setup alg bits (Some h) = signature w packet _ alg
-half w packet setup alg bits None = tt
-
-bits : (suite : Suite) (w : Walk) (packet : Packet) (setup draw : List ℕ) (alg : ℤ) (r : Option ℕ) → WritesNothing (to2.by_bits suite w packet setup draw alg r)
-bits suite w packet setup draw alg (Some n) = half w packet setup alg n _
-bits suite w packet setup draw alg None = tt
-
-algorithm : (suite : Suite) (w : Walk) (packet : Packet) (setup draw : List ℕ) (r : Option ℤ) → WritesNothing (to2.by_algorithm suite w packet setup draw r)
-algorithm suite w packet setup draw (Some alg) = bits suite w packet setup draw alg _
-algorithm suite w packet setup draw None = tt
+agreed : (w : Walk) (packet : Packet) (setup : List ℕ) (r : Result Agreed Cause) → WritesNothing (to2.by_agreement w packet setup r)
+agreed w packet setup (Ok a) = signature w packet _ a.alg
+agreed w packet setup (Err e) = tt
 
 xb2 : (suite : Suite) (w : Walk) (packet : Packet) (setup first : List ℕ) (r : Result (List ℕ) Failed) → WritesNothing (to2.with_xb2 suite w packet setup first r)
-xb2 suite w packet setup first (Ok second) = algorithm suite w packet setup _ _
+xb2 suite w packet setup first (Ok second) = agreed w packet setup _
 xb2 suite w packet setup first (Err _) = tt
 
 xb1 : (suite : Suite) (w : Walk) (packet : Packet) (setup : List ℕ) (r : Result (List ℕ) Failed) → WritesNothing (to2.with_xb1 suite w packet setup r)
@@ -84,12 +71,19 @@ owned : (suite : Suite) (w : Walk) (packet : Packet) (r : Result (Unit {0}) Caus
 owned suite w packet (Ok _) = setup_nonce suite w packet
 owned suite w packet (Err e) = tt
 
-pub walks : (suite : Suite) (packet : Packet) (r : Result Walk Cause) → WritesNothing (to2.walks suite packet r)
-walks suite packet (Ok w) = asks_or_not (nat_lt w.index w.shown.payload.entries) where
-  asks_or_not : (more : Bool) → WritesNothing (if more then to2.by_size w packet (fits_peer w.shown.payload.max_size (to2.entry_asked w)) else to2.by_owner suite w packet (to2.owner_checks suite w))
-  asks_or_not true = asked w packet (fits_peer w.shown.payload.max_size (to2.entry_asked w))
+walks : (suite : Suite) (w : Walk) (packet : Packet) → WritesNothing (to2.walks suite w packet)
+walks suite w packet = asks_or_not (nat_lt w.index w.shown.payload.entries) where
+  asks_or_not : (more : Bool) → WritesNothing (if more then Row.Ends (to2.asks w packet (fits_peer w.shown.payload.max_size (to2.entry_asked w))) else to2.by_owner suite w packet (to2.owner_checks suite w))
+  asks_or_not true = tt
   asks_or_not false = owned suite w packet (to2.owner_checks suite w)
-walks suite packet (Err e) = tt
+
+headed : (suite : Suite) (s : HelloSent) (packet : Packet) (r : Result ProveOvHdr Cause) → WritesNothing (to2.by_header suite s packet r)
+headed suite s packet (Ok shown) = walks suite (to2.walk_from (to2.with_token s.self packet) shown) packet
+headed suite s packet (Err e) = tt
+
+entered : (suite : Suite) (w : Walk) (packet : Packet) (r : Result OvNextEntry Cause) → WritesNothing (to2.by_entry suite w packet r)
+entered suite w packet (Ok next) = walks suite (to2.walk_on (to2.with_token w.self packet) w next.entry) packet
+entered suite w packet (Err e) = tt
 
 -- ---- TO2.SetupDevice
 
@@ -180,11 +174,11 @@ credentials packet = by_header packet (said_by set_credentials set_credentials_k
 
 pub shows_header : (suite : Suite) (s : HelloSent) (packet : Packet) → WritesNothing (to2.prove_ov_hdr_row suite s packet)
 unfolding prove_ov_hdr_row
-shows_header suite s packet = walks suite packet (to2.header_checks suite s packet)
+shows_header suite s packet = headed suite s packet (to2.header_checks suite s packet)
 
 pub next_entry : (suite : Suite) (w : Walk) (packet : Packet) → WritesNothing (to2.ov_next_entry_row suite w packet)
 unfolding ov_next_entry_row
-next_entry suite w packet = walks suite packet (to2.entry_checks suite w packet)
+next_entry suite w packet = entered suite w packet (to2.entry_checks suite w packet)
 
 pub setup : (suite : Suite) (p : Proved) (packet : Packet) → WritesNothing (to2.setup_device_row suite p packet)
 unfolding setup_device_row

@@ -1,15 +1,13 @@
 -- A device's part of TO2 (FIDO Device Onboard 1.1, section 5.5).
-use Rattle.std.specs.Prelude.{ℕ, ◌+◌, ◌==◌, ℤ, pos, List, [], ◌++◌, Bool, true, false, ◌&&◌, not, nat_lt, if◌then◌else◌, Option, Some, None, option_map, Result, Ok, Err}
+use Rattle.std.specs.Prelude.{ℕ, ◌+◌, ◌==◌, ℤ, pos, List, [], ◌++◌, Bool, true, false, ◌&&◌, not, nat_lt, if◌then◌else◌, Option, Some, None, option_map, Result, Ok, Err, ok_or}
 use Rattle.std.specs.Ordering.{int_eq}
 use Rattle.std.specs.Str.{bytes_eq}
 use Rattle.cbor_core.specs.Deterministic.{det}
 use Rattle.cbor_core.specs.Whole.{whole}
 use Rattle.fdo_ports.specs.declared.failed.Failed.{Failed}
 use Rattle.hash_hmac.specs.Hmac.{maced}
-use Rattle.hash_hmac.specs.Session.{derived_key}
 use Rattle.hash_hmac.specs.declared.hash.Hash.{Hash}
 use Rattle.key_codec.specs.declared.key.PublicKey.{PublicKey}
-use Rattle.key_codec.specs.declared.sig_info.SigInfo.{SigInfo}
 use Rattle.service_info.specs.Packed.{too_wide}
 use Rattle.service_info.specs.Size.{size_stated}
 use Rattle.service_info.specs.declared.pair.Pair.{Pair}
@@ -33,27 +31,22 @@ use Rattle.fdo_msgs.specs.declared.msg.Msg.{Msg}
 use Rattle.fdo_msgs.specs.declared.msg.Msg.TheVariants as msg
 use Rattle.fdo_msgs.specs.declared.packet.Packet.{Packet}
 use Rattle.fdo_msgs.specs.declared.to1d.To1d.{To1d}
-use Rattle.fdo_rules.specs.Channel.{Channel, Side, sealed_within, unsealed}
+use Rattle.fdo_rules.specs.Channel.{Channel, Side, fresh, sealed_within, unsealed}
 use Rattle.fdo_rules.specs.Checks.{◌>>=◌, wants, unless, verified, is_hash_of, is_true, fits_peer, key_bytes, no_algorithm}
 use Rattle.fdo_rules.specs.DeviceDi.{fits_credential}
+use Rattle.fdo_rules.specs.declared.offer.Offer.{Offer}
+use Rattle.fdo_rules.specs.declared.parts.OvNextEntry.{OvNextEntry}
+use Rattle.fdo_rules.specs.declared.parts.OwnerInfo.{OwnerInfo}
+use Rattle.fdo_rules.specs.declared.parts.ProveOvHdr.{ProveOvHdr}
+use Rattle.fdo_rules.specs.declared.parts.SetupDevice.{SetupDevice}
 use Rattle.fdo_rules.specs.Made.{credential_of, envelope, hmac_of, signed_bytes, text_to_sign}
 use Rattle.fdo_rules.specs.Moves.{Moves, refused, reopened, awaited, said_by, token_after}
-use Rattle.fdo_rules.specs.Parts.{ProveOvHdr, SetupDevice, OwnerInfo, prove_ov_hdr, ov_next_entry, setup_device, owner_ready, owner_info, done2}
+use Rattle.fdo_rules.specs.Parts.{prove_ov_hdr, ov_next_entry, setup_device, owner_ready, owner_info, done2}
 use Rattle.fdo_rules.specs.Row.{Row}
 use Rattle.fdo_rules.specs.Suite.{Suite}
 use Rattle.fdo_rules.specs.Turns.{cut, is_empty, owner_fault, info_check, most_rounds}
 
 -- ---- states
-
--- what a device offers, and whether its owner may keep the credential as it is
-pub record Offer : Type 0 where
-  pub kex : List ℕ
-  pub cipher : ℤ
-  pub sig : SigInfo
-  pub to1d : Option To1d
-  pub max_size : ℕ
-  pub info_size : Option ℕ
-  pub reuse : Bool
 
 -- the credential, the bytes of the attestation key, the offer and the token, in every state
 pub record Self : Type 0 where
@@ -98,9 +91,10 @@ pub record Informing : Type 0 where
   pub mine_open : Bool
   pub rounds : ℕ
 
--- TO2.Done was sent
+-- TO2.Done was sent, after which the credential stands
 pub record DoneSent : Type 0 where
-  pub ready : Ready
+  pub setup_dv : List ℕ
+  pub channel : Channel
   pub cred : Credential
 
 abbrev pub with_token : Self → Packet → Self
@@ -120,12 +114,12 @@ HelloRow = Row (Option Credential) (Moves HelloSent (Unit {0}))
 abbrev pub hello_with : Credential → List ℕ → Offer → List ℕ → HelloSent
 hello_with cred me offer nonce = record { self = record { cred = cred; me = me; offer = offer; token = None }; nonce = nonce; hello = hello_body offer cred.guid nonce }
 
-abbrev pub with_nonce : Credential → List ℕ → Offer → Result (List ℕ) Failed → HelloRow
-with_nonce cred me offer (Ok nonce) = Row.Ends (Moves.On (hello_with cred me offer nonce) (record { token = None; kind = kind.hello_device; body = hello_body offer cred.guid nonce }))
-with_nonce cred me offer (Err _) = Row.Ends (Moves.Stopped (cause.Outside object.Random) None)
+abbrev pub with_nonce : Credential → List ℕ → Offer → Result (List ℕ) Failed → Moves HelloSent (Unit {0})
+with_nonce cred me offer (Ok nonce) = Moves.On (hello_with cred me offer nonce) (record { token = None; kind = kind.hello_device; body = hello_body offer cred.guid nonce })
+with_nonce cred me offer (Err _) = Moves.Stopped (cause.Outside object.Random) None
 
 unfoldable pub hello_row : Credential → List ℕ → Offer → HelloRow
-hello_row cred me offer = Row.Draws (with_nonce cred me offer)
+hello_row cred me offer = Row.Draws (λ nonce. Row.Ends (with_nonce cred me offer nonce))
 
 -- ---- the walk along the voucher's entries
 
@@ -140,9 +134,9 @@ WalkRow = Row (Option Credential) (Moves Walked (Unit {0}))
 abbrev pub entry_asked : Walk → List ℕ
 entry_asked w = body_of (msg.GetOvNextEntry w.index)
 
-abbrev pub by_size : Walk → Packet → Result (Unit {0}) Cause → WalkRow
-by_size w packet (Ok _) = Row.Ends (Moves.On (Walked.Asks w) (sent w.self kind.get_ov_next_entry (entry_asked w)))
-by_size w packet (Err e) = Row.Ends (refused packet e)
+abbrev pub asks : Walk → Packet → Result (Unit {0}) Cause → Moves Walked (Unit {0})
+asks w packet (Ok _) = Moves.On (Walked.Asks w) (sent w.self kind.get_ov_next_entry (entry_asked w))
+asks w packet (Err e) = refused packet e
 
 -- the claims that are signed, and NonceTO2SetupDv beside them
 abbrev pub claims_of : Walk → List ℕ → List ℕ
@@ -151,36 +145,38 @@ claims_of w xb = det (item_of_device_proof w.shown.prove_dv w.self.cred.guid xb)
 abbrev pub proof_body : Walk → List ℕ → List ℕ → ℤ → List ℕ → List ℕ
 proof_body w setup_dv xb alg sig = signed_bytes (envelope alg (device_claims setup_dv) (claims_of w xb) sig)
 
-abbrev pub channel_of : ℤ → ℕ → List ℕ → Channel
-channel_of cipher bits shared = record { cipher = cipher; bits = bits; key = derived_key shared bits; taken = []; used = 0 }
+-- the number under which the own key signs, the device's half of the key agreement, and the channel that both halves give
+pub record Agreed : Type 0 where
+  pub alg : ℤ
+  pub xb : List ℕ
+  pub channel : Channel
 
-abbrev pub proved_with : Walk → List ℕ → List ℕ → ℕ → List ℕ → Proved
-proved_with w setup_dv xb bits shared = record { self = w.self; shown = w.shown; setup_dv = setup_dv; xb = xb; channel = channel_of w.self.offer.cipher bits shared }
+abbrev pub proved_with : Walk → List ℕ → Agreed → Proved
+proved_with w setup_dv a = record { self = w.self; shown = w.shown; setup_dv = setup_dv; xb = a.xb; channel = a.channel }
 
-abbrev pub proves : Walk → Packet → Proved → List ℕ → Result (Unit {0}) Cause → WalkRow
-proves w packet p body (Ok _) = Row.Ends (Moves.On (Walked.Proves p) (sent w.self kind.prove_device body))
-proves w packet p body (Err e) = Row.Ends (refused packet e)
+abbrev pub proves : Walk → Packet → Proved → List ℕ → Result (Unit {0}) Cause → Moves Walked (Unit {0})
+proves w packet p body (Ok _) = Moves.On (Walked.Proves p) (sent w.self kind.prove_device body)
+proves w packet p body (Err e) = refused packet e
 
 abbrev pub with_signature : Walk → Packet → Proved → ℤ → Result (List ℕ) Failed → WalkRow
-with_signature w packet p alg (Ok sig) = proves w packet p (proof_body w p.setup_dv p.xb alg sig) (fits_peer w.shown.payload.max_size (proof_body w p.setup_dv p.xb alg sig))
+with_signature w packet p alg (Ok sig) =
+    Row.Ends (proves w packet p (proof_body w p.setup_dv p.xb alg sig) (fits_peer w.shown.payload.max_size (proof_body w p.setup_dv p.xb alg sig)))
 with_signature w packet p alg (Err _) = Row.Ends (refused packet (cause.Outside object.Signer))
 
 -- the own key, the cipher and the second half of the key agreement, in this order
-abbrev pub by_second : Walk → Packet → List ℕ → ℤ → ℕ → Option (List ℕ × List ℕ) → WalkRow
-by_second w packet setup_dv alg bits (Some half) =
-    Row.Signs w.self.me (text_to_sign alg (claims_of w half.0)) (with_signature w packet (proved_with w setup_dv half.0 bits half.1) alg)
-by_second w packet setup_dv alg bits None = Row.Ends (refused packet no_algorithm)
+abbrev pub agreement : Suite → Walk → List ℕ → Result Agreed Cause
+agreement suite w draw =
+    ok_or (suite.algorithm w.self.me) no_algorithm
+    >>= λ alg. ok_or (suite.bits w.self.offer.cipher) (cause.NoAlgorithm w.self.offer.cipher)
+    >>= λ bits. ok_or (suite.second w.self.offer.kex draw w.shown.payload.xa) no_algorithm
+    >>= λ half. Ok (record { alg = alg; xb = half.0; channel = fresh w.self.offer.cipher bits half.1 })
 
-abbrev pub by_bits : Suite → Walk → Packet → List ℕ → List ℕ → ℤ → Option ℕ → WalkRow
-by_bits suite w packet setup_dv draw alg (Some bits) = by_second w packet setup_dv alg bits (suite.second w.self.offer.kex draw w.shown.payload.xa)
-by_bits suite w packet setup_dv draw alg None = Row.Ends (refused packet (cause.NoAlgorithm w.self.offer.cipher))
-
-abbrev pub by_algorithm : Suite → Walk → Packet → List ℕ → List ℕ → Option ℤ → WalkRow
-by_algorithm suite w packet setup_dv draw (Some alg) = by_bits suite w packet setup_dv draw alg (suite.bits w.self.offer.cipher)
-by_algorithm suite w packet setup_dv draw None = Row.Ends (refused packet no_algorithm)
+abbrev pub by_agreement : Walk → Packet → List ℕ → Result Agreed Cause → WalkRow
+by_agreement w packet setup_dv (Ok a) = Row.Signs w.self.me (text_to_sign a.alg (claims_of w a.xb)) (with_signature w packet (proved_with w setup_dv a) a.alg)
+by_agreement w packet setup_dv (Err e) = Row.Ends (refused packet e)
 
 abbrev pub with_xb2 : Suite → Walk → Packet → List ℕ → List ℕ → Result (List ℕ) Failed → WalkRow
-with_xb2 suite w packet setup_dv first (Ok second) = by_algorithm suite w packet setup_dv (first ++ second) (suite.algorithm w.self.me)
+with_xb2 suite w packet setup_dv first (Ok second) = by_agreement w packet setup_dv (agreement suite w (first ++ second))
 with_xb2 suite w packet setup_dv first (Err _) = Row.Ends (refused packet (cause.Outside object.Random))
 
 abbrev pub with_xb1 : Suite → Walk → Packet → List ℕ → Result (List ℕ) Failed → WalkRow
@@ -205,11 +201,10 @@ by_owner suite w packet (Ok _) = Row.Draws (with_setup suite w packet)
 by_owner suite w packet (Err e) = Row.Ends (refused packet e)
 
 -- an entry is asked for while there are some, and else the device proves itself
-abbrev pub walks : Suite → Packet → Result Walk Cause → WalkRow
-walks suite packet (Ok w) =
-    if nat_lt w.index w.shown.payload.entries then by_size w packet (fits_peer w.shown.payload.max_size (entry_asked w))
+abbrev pub walks : Suite → Walk → Packet → WalkRow
+walks suite w packet =
+    if nat_lt w.index w.shown.payload.entries then Row.Ends (asks w packet (fits_peer w.shown.payload.max_size (entry_asked w)))
     else by_owner suite w packet (owner_checks suite w)
-walks suite packet (Err e) = Row.Ends (refused packet e)
 
 -- ---- TO2.ProveOVHdr
 
@@ -224,17 +219,27 @@ is_own cred shown = is_hash_of cred.key_hash shown.payload.header.key_raw && is_
 abbrev pub walk_from : Self → ProveOvHdr → Walk
 walk_from self shown = record { self = self; shown = shown; index = 0; before = shown.payload.header.raw ++ shown.payload.hmac_raw; key = shown.payload.header.key }
 
-unfoldable pub header_checks : Suite → HelloSent → Packet → Result Walk Cause
-header_checks suite s packet =
-    said_by prove_ov_hdr kind.prove_ov_hdr packet
-    >>= λ shown. verified suite.verifies shown.key shown.sign
-    >>= λ _. wants (bytes_eq shown.payload.nonce s.nonce) cause.Nonce
+abbrev pub claims_checks : HelloSent → ProveOvHdr → Result (Unit {0}) Cause
+claims_checks s shown =
+    wants (bytes_eq shown.payload.nonce s.nonce) cause.Nonce
     >>= λ _. wants (is_hash_of shown.payload.hello_hash s.hello) cause.HashDiffers
     >>= λ _. wants (is_own s.self.cred shown) (cause.Chain chain.NoMatch)
-    >>= λ _. Ok (walk_from (with_token s.self packet) shown)
+
+abbrev pub shown_checks : Suite → HelloSent → ProveOvHdr → Result (Unit {0}) Cause
+shown_checks suite s shown = verified suite.verifies shown.key shown.sign >>= λ _. claims_checks s shown
+
+unfoldable pub header_checks : Suite → HelloSent → Packet → Result ProveOvHdr Cause
+header_checks suite s packet =
+    said_by prove_ov_hdr kind.prove_ov_hdr packet
+    >>= λ shown. shown_checks suite s shown
+    >>= λ _. Ok shown
+
+abbrev pub by_header : Suite → HelloSent → Packet → Result ProveOvHdr Cause → WalkRow
+by_header suite s packet (Ok shown) = walks suite (walk_from (with_token s.self packet) shown) packet
+by_header suite s packet (Err e) = Row.Ends (refused packet e)
 
 unfoldable pub prove_ov_hdr_row : Suite → HelloSent → Packet → WalkRow
-prove_ov_hdr_row suite s packet = walks suite packet (header_checks suite s packet)
+prove_ov_hdr_row suite s packet = by_header suite s packet (header_checks suite s packet)
 
 -- ---- TO2.OVNextEntry
 
@@ -244,15 +249,23 @@ chain_check broken = unless (option_map cause.Chain broken)
 abbrev pub walk_on : Self → Walk → Entry → Walk
 walk_on self w entry = record { self = self; shown = w.shown; index = w.index + 1; before = entry.raw; key = entry.key }
 
-unfoldable pub entry_checks : Suite → Walk → Packet → Result Walk Cause
+abbrev pub next_checks : Suite → Walk → OvNextEntry → Result (Unit {0}) Cause
+next_checks suite w next =
+    wants (next.number == w.index) (cause.EntryNumber next.number)
+    >>= λ _. chain_check (entry_break suite.verifies w.shown.payload.header w.index w.before w.key next.entry)
+
+unfoldable pub entry_checks : Suite → Walk → Packet → Result OvNextEntry Cause
 entry_checks suite w packet =
     said_by ov_next_entry kind.ov_next_entry packet
-    >>= λ next. wants (next.number == w.index) (cause.EntryNumber next.number)
-    >>= λ _. chain_check (entry_break suite.verifies w.shown.payload.header w.index w.before w.key next.entry)
-    >>= λ _. Ok (walk_on (with_token w.self packet) w next.entry)
+    >>= λ next. next_checks suite w next
+    >>= λ _. Ok next
+
+abbrev pub by_entry : Suite → Walk → Packet → Result OvNextEntry Cause → WalkRow
+by_entry suite w packet (Ok next) = walks suite (walk_on (with_token w.self packet) w next.entry) packet
+by_entry suite w packet (Err e) = Row.Ends (refused packet e)
 
 unfoldable pub ov_next_entry_row : Suite → Walk → Packet → WalkRow
-ov_next_entry_row suite w packet = walks suite packet (entry_checks suite w packet)
+ov_next_entry_row suite w packet = by_entry suite w packet (entry_checks suite w packet)
 
 -- ---- TO2.SetupDevice
 
@@ -384,7 +397,7 @@ more_info i r packet lists (Ok made) = Row.Ends (Moves.On (Round.More (informing
 more_info i r packet lists (Err e) = Row.Ends (refused packet e)
 
 abbrev pub done_sent : Ready → Packet → Credential → List ℕ × Channel → RoundRow
-done_sent r packet cred made = Row.Ends (Moves.On (Round.Finished (record { ready = with_channel r made.1; cred = cred })) (sent r.proved.self kind.done made.0))
+done_sent r packet cred made = Row.Ends (Moves.On (Round.Finished (record { setup_dv = r.proved.setup_dv; channel = made.1; cred = cred })) (sent r.proved.self kind.done made.0))
 
 abbrev pub committed : Ready → Packet → Credential → List ℕ × Channel → Result (Unit {0}) Failed → RoundRow
 committed r packet next made (Ok _) = done_sent r packet next made
@@ -421,8 +434,7 @@ by_done2 packet cred (Err e) = refused packet e
 
 unfoldable pub done2_checks : Suite → DoneSent → Packet → Result (Unit {0}) Cause
 done2_checks suite s packet =
-    unsealed_by done2 suite s.ready.proved.channel kind.done2 packet
-    >>= λ both. wants (bytes_eq both.0 s.ready.proved.setup_dv) cause.Nonce
+    unsealed_by done2 suite s.channel kind.done2 packet >>= λ both. wants (bytes_eq both.0 s.setup_dv) cause.Nonce
 
 unfoldable pub done2_row : Suite → DoneSent → Packet → Moves (Unit {0}) Credential
 done2_row suite s packet = by_done2 packet s.cred (done2_checks suite s packet)

@@ -6,7 +6,7 @@ use Rattle.fdo_msgs.specs.declared.cause.Cause.{Cause}
 use Rattle.fdo_msgs.specs.declared.cause.Cause.TheVariants as cause
 use Rattle.fdo_msgs.specs.declared.msg.Msg.{Msg}
 use Rattle.fdo_msgs.specs.declared.packet.Packet.{Packet}
-use Rattle.fdo_rules.specs.Checks.{said, peer_code}
+use Rattle.fdo_rules.specs.Checks.{◌>>=◌, said, peer_code}
 
 -- a state goes on; or a last message is taken, and gives something; or it is refused, with an error for the other end unless
 -- that sent one; or the disk failed, and the store has to be opened again
@@ -18,6 +18,7 @@ pub data Moves (T V : Type 0) : Type 0 where
 
 abbrev pub reply_to : Packet → Cause → Option Packet
 reply_to packet (cause.Peer code) = None
+reply_to packet (cause.Http fault) = None
 reply_to packet e = Some (error_of e packet.kind packet.token)
 
 module _ {T V : Type 0} where
@@ -38,10 +39,7 @@ awaited kind packet =
 
 -- then the body
 abbrev pub said_by : {A : Type 0} → (Msg → Option A) → ℕ → Packet → Result A Cause
-said_by part kind packet = said_awaited part kind (awaited kind packet) where
-  said_awaited : {A : Type 0} → (Msg → Option A) → ℕ → Result (List ℕ) Cause → Result A Cause
-  said_awaited part kind (Ok body) = said part kind body
-  said_awaited part kind (Err e) = Err e
+said_by part kind packet = awaited kind packet >>= λ body. said part kind body
 
 -- the token of a session is the one received last
 abbrev pub token_after : Option (List ℕ) → Packet → Option (List ℕ)

@@ -2,7 +2,6 @@
 use Rattle.std.specs.Prelude.{ℕ, zero, suc, ℤ, List, [], ◌∷◌, ◌++◌, length, Bool, true, false, not, nat_lt, if◌then◌else◌, Option, Some, None, option_map, option_and_then, Result, Ok, Err, ok_or}
 use Rattle.std.specs.Str.{bytes_eq}
 use Rattle.fdo_ports.specs.declared.failed.Failed.{Failed}
-use Rattle.hash_hmac.specs.Session.{derived_key}
 use Rattle.voucher_chain.specs.declared.entry.Entry.{Entry}
 use Rattle.voucher_chain.specs.declared.voucher.Voucher.{Voucher}
 use Rattle.voucher_chain.specs.declared.rv_info.RvInstr.{RvInstr}
@@ -21,7 +20,7 @@ use Rattle.fdo_msgs.specs.declared.cause.Object.TheVariants as object
 use Rattle.fdo_msgs.specs.declared.header_payload.HeaderPayload.{HeaderPayload}
 use Rattle.fdo_msgs.specs.declared.msg.Msg.TheVariants as msg
 use Rattle.fdo_msgs.specs.declared.packet.Packet.{Packet}
-use Rattle.fdo_rules.specs.Channel.{Channel, Side, sealed_within}
+use Rattle.fdo_rules.specs.Channel.{Channel, Side, fresh, sealed_within}
 use Rattle.fdo_rules.specs.Checks.{◌>>=◌, wants, said, verified_by, fits_peer, key_bytes, no_algorithm}
 use Rattle.fdo_rules.specs.Made.{envelope, message_hash, signed_bytes, text_to_sign}
 use Rattle.fdo_rules.specs.Owner.{Owner, OwnSession, OwnView, OwnRow, Phase, Setup, answered, base_with, in_phase, refuses, shut_down, with_map, with_sessions}
@@ -200,7 +199,7 @@ abbrev pub setup_for : OwnSession → Shown → List ℕ → List (List RvInstr)
 setup_for s p guid rv reuse c = record { setup_dv = p.proof.setup_dv; xb = p.proof.xb; guid = guid; rv = rv; reuse = reuse; channel = c }
 
 abbrev pub fresh_channel : OwnSession → Shown → Channel
-fresh_channel s p = record { cipher = s.hello.cipher; bits = s.bits; key = derived_key p.shared s.bits; taken = []; used = 0 }
+fresh_channel s p = fresh s.hello.cipher s.bits p.shared
 
 abbrev pub setup_payload : Owner → Shown → List ℕ → List (List RvInstr) → List ℕ
 setup_payload owner p guid rv = setup_text (record { rv = rv; guid = guid; nonce = p.proof.setup_dv; key = owner.key })

@@ -2,20 +2,20 @@
 use Rattle.std.specs.Prelude.{ℕ, ℤ, List, Bool, Option, Some, None}
 use Rattle.cose_envelopes.specs.declared.sign1.Sign1.{Sign1}
 use Rattle.hash_hmac.specs.declared.hash.Hash.{Hash}
-use Rattle.key_codec.specs.declared.key.PublicKey.{PublicKey}
 use Rattle.key_codec.specs.declared.sig_info.SigInfo.{SigInfo}
 use Rattle.service_info.specs.declared.pair.Pair.{Pair}
-use Rattle.voucher_chain.specs.declared.entry.Entry.{Entry}
 use Rattle.voucher_chain.specs.declared.header.Header.{Header}
-use Rattle.voucher_chain.specs.declared.rv_info.RvInstr.{RvInstr}
-use Rattle.fdo_msgs.specs.declared.header_payload.HeaderPayload.{HeaderPayload}
 use Rattle.fdo_msgs.specs.declared.mfg.MfgInfo.{MfgInfo}
 use Rattle.fdo_msgs.specs.declared.msg.Msg.{Msg}
 use Rattle.fdo_msgs.specs.declared.msg.Msg.TheVariants as msg
 use Rattle.fdo_msgs.specs.declared.to1d.To1d.{To1d}
 use Rattle.fdo_rules.specs.declared.parts.HelloRv.{HelloRv}
+use Rattle.fdo_rules.specs.declared.parts.OvNextEntry.{OvNextEntry}
+use Rattle.fdo_rules.specs.declared.parts.OwnerInfo.{OwnerInfo}
 use Rattle.fdo_rules.specs.declared.parts.OwnerSign.{OwnerSign}
 use Rattle.fdo_rules.specs.declared.parts.Proof.{Proof}
+use Rattle.fdo_rules.specs.declared.parts.ProveOvHdr.{ProveOvHdr}
+use Rattle.fdo_rules.specs.declared.parts.SetupDevice.{SetupDevice}
 
 -- ---- DI
 
@@ -85,12 +85,6 @@ abbrev pub hello_device : Msg → Option HelloDevice
 hello_device (msg.HelloDevice max_size guid nonce kex cipher sig) = Some (record { max_size = max_size; guid = guid; nonce = nonce; kex = kex; cipher = cipher; sig = sig })
 hello_device m = None
 
-pub record ProveOvHdr : Type 0 where
-  pub payload : HeaderPayload
-  pub prove_dv : List ℕ
-  pub key : PublicKey
-  pub sign : Sign1
-
 abbrev pub prove_ov_hdr : Msg → Option ProveOvHdr
 prove_ov_hdr (msg.ProveOvHdr header entries hmac hmac_raw nonce sig xa hello_hash max_size prove_dv key sign) =
     Some (record {
@@ -104,10 +98,6 @@ prove_ov_hdr m = None
 abbrev pub get_ov_next_entry : Msg → Option ℕ
 get_ov_next_entry (msg.GetOvNextEntry n) = Some n
 get_ov_next_entry m = None
-
-pub record OvNextEntry : Type 0 where
-  pub number : ℕ
-  pub entry : Entry
 
 abbrev pub ov_next_entry : Msg → Option OvNextEntry
 ov_next_entry (msg.OvNextEntry n entry) = Some (record { number = n; entry = entry })
@@ -123,13 +113,6 @@ pub record ProveDevice : Type 0 where
 abbrev pub prove_device : Msg → Option ProveDevice
 prove_device (msg.ProveDevice nonce guid xb setup_dv sign) = Some (record { nonce = nonce; guid = guid; xb = xb; setup_dv = setup_dv; sign = sign })
 prove_device m = None
-
-pub record SetupDevice : Type 0 where
-  pub rv : List (List RvInstr)
-  pub guid : List ℕ
-  pub nonce : List ℕ
-  pub key : PublicKey
-  pub sign : Sign1
 
 abbrev pub setup_device : Msg → Option SetupDevice
 setup_device (msg.SetupDevice rv guid nonce key sign) = Some (record { rv = rv; guid = guid; nonce = nonce; key = key; sign = sign })
@@ -154,11 +137,6 @@ pub record DeviceInfo : Type 0 where
 abbrev pub device_info : Msg → Option DeviceInfo
 device_info (msg.DeviceInfo more pairs) = Some (record { more = more; pairs = pairs })
 device_info m = None
-
-pub record OwnerInfo : Type 0 where
-  pub more : Bool
-  pub done : Bool
-  pub pairs : List Pair
 
 abbrev pub owner_info : Msg → Option OwnerInfo
 owner_info (msg.OwnerInfo more done pairs) = Some (record { more = more; done = done; pairs = pairs })

@@ -22,6 +22,36 @@ pub record Suite : Type 0 where
   pub leaf : List ℕ → Option (List ℕ)
   pub issues : List ℕ → Bool
 
+-- of a suite's members
+abbrev pub suite_of :
+    Verifies → (List ℕ → Option ℤ) → (List ℕ → Bool) → (List ℕ → List ℕ → List ℕ × List ℕ) → (List ℕ → List ℕ → List ℕ → Option (List ℕ × List ℕ)) → (List ℕ → List ℕ → List ℕ → Option (List ℕ)) → (ℤ → Option ℕ)
+    → (ℤ → List ℕ → List ℕ → List ℕ → List ℕ → List ℕ) → (ℤ → List ℕ → List ℕ → List ℕ → List ℕ → Option (List ℕ)) → (List ℕ → Option (List ℕ)) → (List ℕ → Bool) → Suite
+suite_of verifies algorithm agrees first second finish bits seals opens leaf issues = record {
+  verifies = verifies;
+  algorithm = algorithm;
+  agrees = agrees;
+  first = first;
+  second = second;
+  finish = finish;
+  bits = bits;
+  seals = seals;
+  opens = opens;
+  leaf = leaf;
+  issues = issues;
+}
+
+-- what sealing and opening need of it
+pub record Sealing : Type 0 where
+  pub bits : ℤ → Option ℕ
+  pub seals : ℤ → List ℕ → List ℕ → List ℕ → List ℕ → List ℕ
+  pub opens : ℤ → List ℕ → List ℕ → List ℕ → List ℕ → Option (List ℕ)
+
+abbrev pub sealing : Suite → Sealing
+sealing suite = record { bits = suite.bits; seals = suite.seals; opens = suite.opens }
+
+abbrev pub sealing_by : (ℤ → Option ℕ) → (ℤ → List ℕ → List ℕ → List ℕ → List ℕ → List ℕ) → (ℤ → List ℕ → List ℕ → List ℕ → List ℕ → Option (List ℕ)) → Sealing
+sealing_by bits seals opens = record { bits = bits; seals = seals; opens = opens }
+
 -- the part of it that a rendezvous server needs
 pub record Checking : Type 0 where
   pub verifies : Verifies

@@ -3,11 +3,13 @@
 #![tactic(auto)]
 
 pub mod laws;
+pub mod offer;
 pub mod parts;
 pub mod rendezvous;
 pub mod unfit;
 
 pub use laws::{credential_stays, device_waits, owner_refuses, servers_wait, sides_differ};
-pub use parts::{HelloRv, OwnerSign, Proof};
+pub use offer::Offer;
+pub use parts::{HelloRv, OvNextEntry, OwnerInfo, OwnerSign, Proof, ProveOvHdr, SetupDevice};
 pub use rendezvous::{Asked, Owned, Protocol, Registering};
 pub use unfit::Unfit;
