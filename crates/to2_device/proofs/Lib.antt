@@ -1,0 +1,4 @@
+pub mod Replies
+pub mod Stepping
+pub mod Walking
+pub mod Signing
