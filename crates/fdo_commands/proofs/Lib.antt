@@ -6,6 +6,7 @@ pub mod AnswersSoFar
 pub mod BytesTaken
 pub mod Records
 pub mod StepEndings
+pub mod RvBlames
 pub mod RvCounts
 pub mod OneInput
 pub mod TextEndings

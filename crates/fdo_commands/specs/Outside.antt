@@ -2,6 +2,7 @@
 use Rattle.std.specs.Prelude.{◌≡◌, ℕ, ℤ, Bool, List, Option, codes}
 use Rattle.fdo_ports.specs.Draw.{Drawn}
 use Rattle.fdo_ports.specs.Stream.{Stream}
+use Rattle.rendezvous.specs.RvState.{Clocked}
 use Rattle.suite_port.specs.Keys.{Keys}
 use Rattle.voucher_chain.specs.Chain.{Verifies}
 use Rattle.fdo_commands.specs.Ending.{EndsWith, Lent, lent}
@@ -12,9 +13,10 @@ pub record Outside : Type 0 where
   pub output : Stream
   pub suite : Keys
   pub random : Drawn
+  pub clock : Clocked
 
-abbrev pub outside : Stream → Stream → Keys → Drawn → Outside
-outside input output suite random = record { input = input; output = output; suite = suite; random = random }
+abbrev pub outside : Stream → Stream → Keys → Drawn → Clocked → Outside
+outside input output suite random clock = record { input = input; output = output; suite = suite; random = random; clock = clock }
 
 -- what a command was lent of them: the streams, and what stands for the others that it uses
 abbrev pub lent_of : {S : Type 0} → (Outside → S) → Outside → Lent S
@@ -28,18 +30,15 @@ only_streams before after = record before { input = after.input; output = after.
 abbrev pub only_suite : Outside → Outside → Outside
 only_suite before after = record before { input = after.input; output = after.output; suite = after.suite }
 
--- but its streams and the random draws
-abbrev pub only_random : Outside → Outside → Outside
-only_random before after = record before { input = after.input; output = after.output; random = after.random }
-
--- what a suite says of signatures and keys, whichever of them it holds
+-- what a suite says of signatures, keys and certificates, whichever of them it holds
 pub record Signing : Type 0 where
   pub verifies : Verifies
   pub algorithm : List ℕ → Option ℤ
   pub loads : List ℕ → Bool
+  pub key_in : List ℕ → Option (List ℕ)
 
-abbrev pub signing : Verifies → (List ℕ → Option ℤ) → (List ℕ → Bool) → Signing
-signing verifies algorithm loads = record { verifies = verifies; algorithm = algorithm; loads = loads }
+abbrev pub signing : Verifies → (List ℕ → Option ℤ) → (List ℕ → Bool) → (List ℕ → Option (List ℕ)) → Signing
+signing verifies algorithm loads key_in = record { verifies = verifies; algorithm = algorithm; loads = loads; key_in = key_in }
 
 -- a last line is all that is done to the input and the output
 pub record OnlyLine (text : List ℕ) (input input' output output' : Stream) : Type 0 where

@@ -29,7 +29,7 @@ pub(crate) fn voucher_extend<I: Source, O: Sink, S: Suite>(
     output: &mut O,
     suite: &mut S,
 ) -> Status
-    ensures ends { ExtendEnds (signing S.Verifier.verifies S.Signer.algorithm S.Signer.loads) next.now private.now
+    ensures ends { ExtendEnds (signing S.Verifier.verifies S.Signer.algorithm S.Signer.loads S.CertReader.key_in) next.now private.now
         (lent (keys S.Holder suite.old) (stream I.Channel input.old) (stream O.Channel output.old))
         (lent (keys S.Holder suite.new) (stream I.Channel input.new) (stream O.Channel output.new)) result }
     ensures input { OnlyRead (stream I.Channel input.old) (stream I.Channel input.new) }
@@ -66,7 +66,7 @@ fn extend_input<I: Source, O: Sink, S: Suite>(
     output: &mut O,
     suite: &mut S,
 ) -> Status
-    ensures ends { TextEnds (extending (signing S.Verifier.verifies S.Signer.algorithm S.Signer.loads) next.now)
+    ensures ends { TextEnds (extending (signing S.Verifier.verifies S.Signer.algorithm S.Signer.loads S.CertReader.key_in) next.now)
         (lent (keys S.Holder suite.old) (stream I.Channel input.old) (stream O.Channel output.old))
         (lent (keys S.Holder suite.new) (stream I.Channel input.new) (stream O.Channel output.new)) result }
     ensures input { OnlyRead (stream I.Channel input.old) (stream I.Channel input.new) }
@@ -88,7 +88,7 @@ fn extend_bytes<S: Suite>(
     bytes: &[u8],
 ) -> Result<Told, NoMemory>
     ensures { MatchResult result
-        (λ what. Extends (signing S.Verifier.verifies S.Signer.algorithm S.Signer.loads) next.now
+        (λ what. Extends (signing S.Verifier.verifies S.Signer.algorithm S.Signer.loads S.CertReader.key_in) next.now
         (keys S.Holder suite.old) bytes.now what
         (keys S.Holder suite.new))
         (λ _. ExtendsFront (keys S.Holder suite.old) bytes.now

@@ -19,7 +19,7 @@ WritesOwn text before after status.Write = CutShort before after text × Rises b
 WritesOwn text before after _ = ⊥
 
 -- an own word has its text written, and nothing is read, loaded or drawn; the top call does the rest over a suite that says
--- this of signatures and keys
+-- this of signatures, keys and certificates
 abbrev pub RanOwn : Signing → Option OwnWord → List (List ℕ) → Outside → Outside → Status → Type 0
 RanOwn signs (Some word) words before after ending =
     WritesOwn (own_text word) before.output after.output ending × (after.input ≡ before.input)

@@ -59,8 +59,8 @@ Exit status, and the last line that is written for it
    9  the voucher is refused: `refused CAUSE`, and the number of the entry where
       it has one. CAUSE is badcerthash, badprevhash, badinfohash, noalgorithm,
       badsignature, toolong or failed
-  11  the source of random draws failed: `fault random`, or the suite as it
-      took the private key: `fault signer`
+  11  the source of random draws failed: `fault random`, the clock: `fault
+      clock`, or the suite as it took the private key: `fault signer`
 
 docs/COMMANDS.md and the manual page fdo(1) say more.
 ";

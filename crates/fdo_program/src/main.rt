@@ -7,6 +7,7 @@ mod help;
 mod own_word;
 mod std_sink;
 mod std_source;
+mod system_clock;
 mod system_random;
 #[cfg(test)]
 mod tests;
@@ -18,6 +19,7 @@ use std::process::ExitCode;
 use std_sink::StdSink;
 use std_source::StdSource;
 use suite_port::LabSuite;
+use system_clock::SystemClock;
 use system_random::SystemRandom;
 use words::read_words;
 
@@ -34,6 +36,7 @@ fn run(rt: &HostRuntime) -> Status {
     let mut output = StdSink::new(rt.stdout());
     let mut suite = LabSuite::new(Vec::new(rt.alloc()));
     let mut random = SystemRandom::new(rt);
+    let mut clock = SystemClock::new(rt);
     answer(
         rt.alloc(),
         words.as_slice(),
@@ -41,5 +44,6 @@ fn run(rt: &HostRuntime) -> Status {
         &mut output,
         &mut suite,
         &mut random,
+        &mut clock,
     )
 }

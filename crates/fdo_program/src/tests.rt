@@ -4,14 +4,18 @@ use crate::help::HELP;
 use crate::own_word::OwnWord;
 use crate::std_sink::StdSink;
 use crate::std_source::StdSource;
+use crate::system_clock::SystemClock;
 use crate::system_random::SystemRandom;
 use cbor_core::Text;
 use fdo_commands::Status;
-use fdo_ports::{Failed, ListRandom, MemorySink, PlainSource, Random, Sink, Source, write_all};
+use fdo_ports::{
+    Clock, Failed, ListClock, ListRandom, MemorySink, PlainSource, Random, Sink, Source, write_all,
+};
 use std::io;
 use std::io::{Read, Write};
 use std::random::RandomSource;
 use std::test::Fail;
+use std::time::{Clock as TimeSource, Duration};
 use suite_port::LabSuite;
 
 /// An object on which each call fails.
@@ -89,6 +93,16 @@ impl RandomSource for Sevens {
     }
 }
 
+impl TimeSource for Broken {
+    fn monotonic(&self) -> io::Result<Duration> {
+        Err(io::Error::from(io::ErrorKind::Other))
+    }
+
+    fn since_1970(&self) -> io::Result<Duration> {
+        Err(io::Error::from(io::ErrorKind::Other))
+    }
+}
+
 /// A writer that takes nothing more.
 #[derive(Debug, Drop)]
 struct Full;
@@ -138,6 +152,19 @@ fn draws_differ(rt: HostRuntime) {
     assert_eq!(rt; broken.draw16(), Err(Failed));
     let mut sevens = SystemRandom::new(Sevens);
     assert_eq!(rt; sevens.draw16(), Ok([7; 16]));
+}
+
+/// The first second of 2020, which every clock that is set has passed.
+const PASSED: u64 = 1_577_836_800;
+
+#[test]
+fn seconds_pass(rt: HostRuntime) {
+    let mut clock = SystemClock::new(&rt);
+    let first = clock.now();
+    let second = clock.now();
+    assert!(rt; first.is_ok_and(|now| now > PASSED) && second >= first);
+    let mut broken = SystemClock::new(Broken);
+    assert_eq!(rt; broken.now(), Err(Failed));
 }
 
 /// A call that fails is a failure, and is not made again.
@@ -203,6 +230,7 @@ fn own_texts_are_written(rt: HostRuntime) -> Result<(), Fail> {
         let mut output = MemorySink::new(Vec::new(rt.alloc()), fails);
         let mut suite = LabSuite::new(Vec::new(rt.alloc()));
         let mut random = ListRandom::new(Vec::new(rt.alloc()), Vec::new(rt.alloc()));
+        let mut clock = ListClock::new(Vec::new(rt.alloc()), Vec::new(rt.alloc()));
         let ending = answer(
             rt.alloc(),
             words.as_slice(),
@@ -210,6 +238,7 @@ fn own_texts_are_written(rt: HostRuntime) -> Result<(), Fail> {
             &mut output,
             &mut suite,
             &mut random,
+            &mut clock,
         );
         assert_eq!(rt; ending, *status);
         assert_eq!(rt; output.written(), written.as_bytes());

@@ -5,6 +5,10 @@
 #[cfg(test)]
 mod message_tests;
 #[cfg(test)]
+mod rv_rows;
+#[cfg(test)]
+mod rv_tests;
+#[cfg(test)]
 mod step_tests;
 #[cfg(test)]
 mod voucher_rows;

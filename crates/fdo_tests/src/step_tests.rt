@@ -1,7 +1,7 @@
 //! `step rendezvous` over objects in memory.
 use cbor_core::Text;
 use fdo_commands::{Status, fdo};
-use fdo_ports::{ListRandom, MemorySink, MemorySource, PlainSink, PlainSource, Source};
+use fdo_ports::{ListClock, ListRandom, MemorySink, MemorySource, PlainSink, PlainSource, Source};
 use std::alloc::{AllocError, Global};
 use suite_port::LabSuite;
 
@@ -236,6 +236,7 @@ fn run(alloc: Global, case: &Case, cut: bool) -> Result<(Vec<u8>, u8), AllocErro
     let mut output = MemorySink::new(Vec::new(alloc), numbers(alloc, fails.write())?);
     let mut suite = LabSuite::new(Vec::new(alloc));
     let mut random = ListRandom::new(draws(alloc, case.draws)?, numbers(alloc, fails.draw())?);
+    let mut clock = ListClock::new(Vec::new(alloc), Vec::new(alloc));
     let status = fdo(
         alloc,
         words.as_slice(),
@@ -243,6 +244,7 @@ fn run(alloc: Global, case: &Case, cut: bool) -> Result<(Vec<u8>, u8), AllocErro
         &mut output,
         &mut suite,
         &mut random,
+        &mut clock,
     );
     Ok((Vec::from_slice(alloc, output.written())?, status.number()))
 }
@@ -287,6 +289,7 @@ fn a_longer_input_is_refused(rt: HostRuntime) -> Result<(), AllocError> {
         let mut input = PlainSource::new(vec![in alloc; 0; length]?);
         let mut suite = LabSuite::new(Vec::new(alloc));
         let mut random = ListRandom::new(Vec::new(alloc), Vec::new(alloc));
+        let mut clock = ListClock::new(Vec::new(alloc), Vec::new(alloc));
         let ended = fdo(
             alloc,
             words.as_slice(),
@@ -294,6 +297,7 @@ fn a_longer_input_is_refused(rt: HostRuntime) -> Result<(), AllocError> {
             &mut PlainSink::new(),
             &mut suite,
             &mut random,
+            &mut clock,
         );
         assert_eq!(rt; ended, status);
     }
@@ -313,6 +317,7 @@ fn ends_at_once(alloc: Global, text: &str) -> Result<bool, AllocError> {
     let mut input = failing_twice(alloc)?;
     let mut suite = LabSuite::new(Vec::new(alloc));
     let mut random = ListRandom::new(Vec::new(alloc), Vec::new(alloc));
+    let mut clock = ListClock::new(Vec::new(alloc), Vec::new(alloc));
     let ended = fdo(
         alloc,
         words.as_slice(),
@@ -320,6 +325,7 @@ fn ends_at_once(alloc: Global, text: &str) -> Result<bool, AllocError> {
         &mut PlainSink::new(),
         &mut suite,
         &mut random,
+        &mut clock,
     );
     let mut bytes = [0; 8];
     let second = input.read(&mut bytes);

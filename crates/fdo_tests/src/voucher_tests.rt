@@ -2,7 +2,7 @@
 use crate::voucher_rows::{EMPTY, P256, P256_SHOWN, WIDE_TAG, WIDE_TAG_OVERLOOKED};
 use cbor_core::Text;
 use fdo_commands::{Status, fdo};
-use fdo_ports::{ListRandom, MemorySink, MemorySource};
+use fdo_ports::{ListClock, ListRandom, MemorySink, MemorySource};
 use std::alloc::Global;
 use std::test::Fail;
 use suite_port::LabSuite;
@@ -415,6 +415,7 @@ fn run(
     let mut output = MemorySink::new(Vec::new(alloc), numbers(alloc, fails.write())?);
     let mut suite = LabSuite::new(numbers(alloc, fails.signer())?);
     let mut random = ListRandom::new(Vec::new(alloc), Vec::new(alloc));
+    let mut clock = ListClock::new(Vec::new(alloc), Vec::new(alloc));
     let status = fdo(
         alloc,
         words,
@@ -422,6 +423,7 @@ fn run(
         &mut output,
         &mut suite,
         &mut random,
+        &mut clock,
     );
     Ok((Vec::from_slice(alloc, output.written())?, status))
 }
