@@ -4,10 +4,11 @@ use fdo_msgs::{
     BodyFault, Cause, HttpFault, Msg, Object, Packet, Token, error_packet, read_body, read_number,
     token_text, write_body,
 };
-use fdo_ports::ListRandom;
+use fdo_ports::{ListClock, ListRandom};
 use rendezvous::Server;
 use std::alloc::Global;
 use std::test::Fail;
+use suite_port::LabSuite;
 
 /// Five times three bytes and one more.
 fn threes(one: [u8; 3], last: u8) -> [u8; 16] {
@@ -412,8 +413,10 @@ fn the_server_answers(rt: HostRuntime) -> Result<(), NoMemory> {
     let alloc = rt.alloc();
     let mut server = Server::new(alloc)?;
     let mut random = ListRandom::new(Vec::new(alloc), Vec::new(alloc));
+    let mut suite = LabSuite::new(Vec::new(alloc));
+    let mut clock = ListClock::new(Vec::new(alloc), Vec::new(alloc));
     let packet = hello(alloc)?;
-    let answer = server.on(alloc, &mut random, &packet)?;
+    let answer = server.on(alloc, &mut suite, &mut random, &mut clock, &packet)?;
     assert!(rt;
         matches!(
             answer,

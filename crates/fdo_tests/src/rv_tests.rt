@@ -10,38 +10,11 @@ use suite_port::LabSuite;
 /// One run: the messages, the draws in hexadecimal, the answers, and the status.
 #[derive(Clone, Copy)]
 struct Row {
-    messages: &'static [u8],
+    messages: &'static str,
     draws: &'static str,
-    answers: &'static [u8],
+    answers: &'static str,
     status: u8,
 }
-
-static ROWS: [Row; 4] = [
-    Row {
-        messages: rv_rows::REPLACED,
-        draws: rv_rows::REPLACED_DRAWS,
-        answers: rv_rows::REPLACED_ANSWERS,
-        status: 0,
-    },
-    Row {
-        messages: rv_rows::BEGUN_AGAIN,
-        draws: rv_rows::BEGUN_AGAIN_DRAWS,
-        answers: rv_rows::BEGUN_AGAIN_ANSWERS,
-        status: 0,
-    },
-    Row {
-        messages: rv_rows::UNNAMED,
-        draws: rv_rows::UNNAMED_DRAWS,
-        answers: rv_rows::UNNAMED_ANSWERS,
-        status: 0,
-    },
-    Row {
-        messages: rv_rows::ENDED,
-        draws: rv_rows::ENDED_DRAWS,
-        answers: rv_rows::ENDED_ANSWERS,
-        status: 11,
-    },
-];
 
 /// How often the clock is asked at most.
 const MOST_SECONDS: usize = 12;
@@ -63,7 +36,7 @@ fn run(alloc: Global, row: &Row, fails: Option<u64>) -> Result<(Vec<u8>, u8), Fa
     words.push(Text::from_str(alloc, "step")?)?;
     words.push(Text::from_str(alloc, "rendezvous")?)?;
     let mut pieces = Vec::new(alloc);
-    pieces.push(Vec::from_slice(alloc, row.messages)?)?;
+    pieces.push(Vec::from_slice(alloc, row.messages.as_bytes())?)?;
     let mut fail = Vec::new(alloc);
     if let Some(number) = fails {
         fail.push(number)?;
@@ -85,19 +58,67 @@ fn run(alloc: Global, row: &Row, fails: Option<u64>) -> Result<(Vec<u8>, u8), Fa
     Ok((Vec::from_slice(alloc, output.written())?, status.number()))
 }
 
+/// Whether a row's run writes its answers and ends with its status.
+fn is_so(alloc: Global, row: Row) -> Result<bool, Fail> {
+    let (written, status) = run(alloc, &row, None)?;
+    Ok(written.as_slice() == row.answers.as_bytes() && status == row.status)
+}
+
+/// Two owners, one after the other, and a device.
+fn replaced() -> Row {
+    Row {
+        messages: rv_rows::REPLACED,
+        draws: rv_rows::REPLACED_DRAWS,
+        answers: rv_rows::REPLACED_ANSWERS,
+        status: 0,
+    }
+}
+
 #[test]
 fn owners_register_and_devices_find_them(rt: HostRuntime) -> Result<(), Fail> {
-    for row in &ROWS {
-        let (written, status) = run(rt.alloc(), row, None)?;
-        assert_eq!(rt; written.as_slice(), row.answers);
-        assert_eq!(rt; status, row.status);
-    }
+    assert!(rt; is_so(rt.alloc(), replaced())?);
+    Ok(())
+}
+
+#[test]
+fn sessions_begin_anew(rt: HostRuntime) -> Result<(), Fail> {
+    let row = Row {
+        messages: rv_rows::BEGUN_AGAIN,
+        draws: rv_rows::BEGUN_AGAIN_DRAWS,
+        answers: rv_rows::BEGUN_AGAIN_ANSWERS,
+        status: 0,
+    };
+    assert!(rt; is_so(rt.alloc(), row)?);
+    Ok(())
+}
+
+#[test]
+fn sessions_that_ended_are_not_named(rt: HostRuntime) -> Result<(), Fail> {
+    let row = Row {
+        messages: rv_rows::UNNAMED,
+        draws: rv_rows::UNNAMED_DRAWS,
+        answers: rv_rows::UNNAMED_ANSWERS,
+        status: 0,
+    };
+    assert!(rt; is_so(rt.alloc(), row)?);
+    Ok(())
+}
+
+#[test]
+fn errors_end_sessions_and_draws_run_out(rt: HostRuntime) -> Result<(), Fail> {
+    let row = Row {
+        messages: rv_rows::ENDED,
+        draws: rv_rows::ENDED_DRAWS,
+        answers: rv_rows::ENDED_ANSWERS,
+        status: 11,
+    };
+    assert!(rt; is_so(rt.alloc(), row)?);
     Ok(())
 }
 
 #[test]
 fn a_clock_that_fails_is_named(rt: HostRuntime) -> Result<(), Fail> {
-    let (written, status) = run(rt.alloc(), &ROWS[0], Some(1))?;
+    let (written, status) = run(rt.alloc(), &replaced(), Some(1))?;
     assert!(rt; written.as_slice().ends_with(b"fault clock\n"));
     assert_eq!(rt; status, 11);
     Ok(())
